@@ -1,3 +1,4 @@
 pub mod Expr
 pub mod Sere
 pub mod Formula
+pub mod Value

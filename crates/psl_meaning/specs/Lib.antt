@@ -1,0 +1,6 @@
+pub mod Word
+pub mod Sequence
+pub mod SequenceSugar
+pub mod Formula
+pub mod FormulaSugar
+pub mod Violation

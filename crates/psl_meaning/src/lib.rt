@@ -1,0 +1,2 @@
+//! What PSL means.
+#![tactic(auto)]
