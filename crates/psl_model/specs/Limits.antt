@@ -1,0 +1,14 @@
+-- This project's own limits, each in one place.
+use Rattle.std.specs.Prelude.{ℕ}
+
+-- the most bits of a vector, a literal and an expression in a checker
+abbrev pub vector_limit : ℕ
+vector_limit = 64
+
+-- the most bytes of a name or a report text in a unit
+abbrev pub name_limit : ℕ
+name_limit = 255
+
+-- the most parentheses open at any place of an expression's text in a checker
+abbrev pub parentheses_limit : ℕ
+parentheses_limit = 520

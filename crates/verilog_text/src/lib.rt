@@ -1,0 +1,2 @@
+//! Checker modules and their text.
+#![tactic(auto)]
