@@ -1,5 +1,12 @@
 pub mod Expr
 pub mod Sere
 pub mod Formula
+pub mod CodeParts
+pub mod ExprCode
+pub mod SereCode
+pub mod FormulaCode
 pub mod Codes
+pub mod ExprView
+pub mod SereView
+pub mod FormulaView
 pub mod View

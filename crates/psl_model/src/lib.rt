@@ -6,9 +6,11 @@ mod formulas;
 mod names;
 mod operators;
 mod refusals;
+mod sequences;
 
 pub use expressions::{Expr, Subexpr};
-pub use formulas::Reach;
+pub use formulas::{Formula, Reach, Subformula};
 pub use names::{Name, Signal};
 pub use operators::{BinOp, UnOp};
 pub use refusals::Refusal;
+pub use sequences::{Sere, Subsere};
