@@ -6,3 +6,12 @@ pub mod Limits
 pub mod Valid
 pub mod Reserved
 pub mod Names
+pub mod CodeParts
+pub mod ExprCode
+pub mod SereCode
+pub mod FormulaCode
+pub mod Codes
+pub mod ExprView
+pub mod SereView
+pub mod FormulaView
+pub mod View

@@ -1,8 +1,16 @@
 //! The types of PSL that every layer speaks of.
 #![tactic(auto)]
 
+mod expressions;
 mod formulas;
+mod names;
 mod operators;
+mod refusals;
+mod sequences;
 
-pub use formulas::Reach;
+pub use expressions::{Expr, Subexpr};
+pub use formulas::{Formula, Reach, Subformula};
+pub use names::{Name, Signal};
 pub use operators::{BinOp, UnOp};
+pub use refusals::Refusal;
+pub use sequences::{Sere, Subsere};
