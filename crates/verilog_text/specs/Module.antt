@@ -4,16 +4,12 @@
 --     IsLawful m      the module has a text
 use Rattle.std.specs.Prelude.{◌≡◌, ◌≢◌, ℕ, suc, ◌+◌, ◌<◌, ◌≤◌, ◌^◌, true, List, [], ◌∷◌, ◌++◌, length, map, take, slice_get, codes, decimal, Option, IfSome, AllPairs, All, nat_eq}
 use Rattle.std.specs.List.{starts_with}
+use Rattle.psl_model.specs.declared.names.Signal.{Signal}
 use Rattle.psl_model.specs.Expr.{Expr}
 use Rattle.psl_model.specs.Value.{width_of}
 use Rattle.psl_model.specs.Valid.{IsValid, parentheses}
 use Rattle.psl_model.specs.Limits.{vector_limit, parentheses_limit}
 use Rattle.psl_model.specs.Names.{IsIdentifier, checker_prefix, IsUsableName, IsReport}
-
--- an input of the design
-pub record Port : Type 0 where
-  pub name : List ℕ
-  pub width : ℕ
 
 -- a register: `initial` is its value after reset, `next` the expression that it takes at a clock edge
 pub record Register : Type 0 where
@@ -29,7 +25,7 @@ pub record Wire : Type 0 where
 pub record Module : Type 0 where
   pub name : List ℕ
   pub report : Option (List ℕ)
-  pub ports : List Port
+  pub ports : List Signal
   pub registers : List Register
   pub wires : List Wire
   pub fail : Expr
@@ -47,12 +43,12 @@ wire_stem = codes "mbac_n"
 
 abbrev pub names_of : Module → List (List ℕ)
 names_of m =
-    codes "mbac_rst" ∷ codes "mbac_eot" ∷ map (λ (p : Port). p.name) m.ports
+    codes "mbac_rst" ∷ codes "mbac_eot" ∷ map (λ (p : Signal). p.name) m.ports
     ++ numbered_names register_stem 0 m.registers ++ numbered_names wire_stem 0 m.wires
 
 -- the widths of the names but for the wires
 abbrev pub state_widths : Module → List ℕ
-state_widths m = 1 ∷ 1 ∷ map (λ (p : Port). p.width) m.ports ++ map (λ (r : Register). r.width) m.registers
+state_widths m = 1 ∷ 1 ∷ map (λ (p : Signal). p.width) m.ports ++ map (λ (r : Register). r.width) m.registers
 
 abbrev pub widths_of : Module → List ℕ
 widths_of m = state_widths m ++ map (λ (w : Wire). w.width) m.wires
@@ -67,7 +63,7 @@ pub record IsExpression (widths : List ℕ) (e : Expr) : Type 0 where
   pub narrow : width_of widths e ≤ vector_limit
   pub shallow : parentheses e ≤ parentheses_limit
 
-pub record IsPort (p : Port) : Type 0 where
+pub record IsPort (p : Signal) : Type 0 where
   pub name : IsUsableName p.name
   pub width : IsWidth p.width
 
@@ -86,7 +82,7 @@ pub record IsLawful (m : Module) : Type 0 where
   pub prefix : starts_with nat_eq m.name checker_prefix ≡ true
   pub report : IfSome m.report IsReport
   pub ports : All IsPort m.ports
-  pub distinct : AllPairs (λ p q. p ≢ q) (map (λ (p : Port). p.name) m.ports)
+  pub distinct : AllPairs (λ p q. p ≢ q) (map (λ (p : Signal). p.name) m.ports)
   pub registers : All (IsRegister m) m.registers
   pub wires : (place : ℕ) → IfSome (slice_get m.wires place) (IsWire m place)
   pub fail : IsExpression (widths_of m) m.fail

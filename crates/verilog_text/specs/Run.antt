@@ -6,9 +6,10 @@
 --     RisesBy stream n                  the output is 1 in some cycle up to n
 use Rattle.std.specs.Prelude.{◌≡◌, ◌≢◌, ℕ, suc, ◌<◌, ◌≤◌, ◌^◌, ◌%◌, max, List, [], ◌∷◌, ◌++◌, map, slice_get, Some}
 use Rattle.std.specs.List.{AllByRecursion}
+use Rattle.psl_model.specs.declared.names.Signal.{Signal}
 use Rattle.psl_model.specs.Expr.{Expr, whole, sized, choice}
 use Rattle.psl_model.specs.Value.{width_of, value_of}
-use Rattle.verilog_text.specs.Module.{Module, Port, Register, Wire, widths_of}
+use Rattle.verilog_text.specs.Module.{Module, Register, Wire, widths_of}
 
 -- the values of one cycle: of the inputs `mbac_rst`, `mbac_eot` and the ports, of the registers and wires, and of the output
 pub record Cycle : Type 0 where
@@ -68,7 +69,7 @@ HaveInputs _ _ _ = ⊥
 pub record IsResetCycle (m : Module) (c : Cycle) : Type 0 where
   pub reset : c.reset ≡ 1
   pub end_of_execution : c.end_of_execution < 2
-  pub ports : FitWidths (map (λ (p : Port). p.width) m.ports) c.ports
+  pub ports : FitWidths (map (λ (p : Signal). p.width) m.ports) c.ports
   pub registers : FitWidths (map (λ (r : Register). r.width) m.registers) c.registers
 
 -- one cycle of reset, and then a cycle for each of the inputs

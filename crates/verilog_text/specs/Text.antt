@@ -2,12 +2,13 @@
 --     spelling m                  the module's text
 --     StandsForModules text ms    the bytes are a checker text, and these are its modules
 use Rattle.std.specs.Prelude.{◌≡◌, ◌≢◌, ℕ, zero, suc, ◌-◌, List, [], ◌∷◌, ◌++◌, map, codes, decimal, Option, Some, None, if◌then◌else◌, ◌==◌, All, AllPairs, flat_map}
+use Rattle.psl_model.specs.declared.names.Signal.{Signal}
 use Rattle.psl_model.specs.declared.operators.UnOp.{UnOp}
 use Rattle.psl_model.specs.declared.operators.UnOp.TheVariants.{Not, Flip, AllOnes, AnyOne, Parity}
 use Rattle.psl_model.specs.declared.operators.BinOp.{BinOp}
 use Rattle.psl_model.specs.declared.operators.BinOp.TheVariants.{Add, Sub, Shl, Shr, Lt, Le, Gt, Ge, Eq, Ne, BitAnd, BitXor, BitOr, And, Or}
 use Rattle.psl_model.specs.Expr.{Expr, whole, bit, part, plain, sized, unary, binary, choice}
-use Rattle.verilog_text.specs.Module.{Module, Port, Register, Wire, register_stem, wire_stem, names_of, IsLawful}
+use Rattle.verilog_text.specs.Module.{Module, Register, Wire, register_stem, wire_stem, names_of, IsLawful}
 
 -- a line ends with a line feed
 abbrev pub line : List ℕ → List ℕ
@@ -69,7 +70,7 @@ range_text width = if width == 1 then [] else codes "[" ++ decimal (width - 1) +
 
 -- the lines, in their order
 abbrev pub header_line : Module → List ℕ
-header_line m = line (codes "module " ++ m.name ++ codes " (mbac_clk, mbac_rst, mbac_eot, " ++ flat_map (λ (p : Port). p.name ++ codes ", ") m.ports ++ codes "mbac_fail);")
+header_line m = line (codes "module " ++ m.name ++ codes " (mbac_clk, mbac_rst, mbac_eot, " ++ flat_map (λ (p : Signal). p.name ++ codes ", ") m.ports ++ codes "mbac_fail);")
 
 abbrev pub report_line : Option (List ℕ) → List ℕ
 report_line None = []
@@ -78,7 +79,7 @@ report_line (Some text) = line (codes "  // " ++ text)
 abbrev pub input_lines : List ℕ
 input_lines = line (codes "  input mbac_clk;") ++ line (codes "  input mbac_rst;") ++ line (codes "  input mbac_eot;")
 
-abbrev pub port_line : Port → List ℕ
+abbrev pub port_line : Signal → List ℕ
 port_line p = line (codes "  input " ++ range_text p.width ++ p.name ++ codes ";")
 
 abbrev pub output_line : List ℕ
