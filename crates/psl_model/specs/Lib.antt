@@ -15,3 +15,5 @@ pub mod ExprView
 pub mod SereView
 pub mod FormulaView
 pub mod View
+pub mod Unit
+pub mod Uses

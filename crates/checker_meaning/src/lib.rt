@@ -1,0 +1,2 @@
+//! What it means that a module checks a formula.
+#![tactic(auto)]
