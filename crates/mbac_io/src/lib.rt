@@ -2,9 +2,14 @@
 #![tactic(auto)]
 
 mod device;
+mod memory_inputs;
+mod memory_sink;
 mod reading;
+mod slot_faults;
 mod writing;
 
 pub use device::{Failed, Inputs, Sink};
+pub use memory_inputs::MemoryInputs;
+pub use memory_sink::MemorySink;
 pub use reading::{ReadError, read_all};
 pub use writing::write_all;
