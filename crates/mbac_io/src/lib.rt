@@ -1,0 +1,15 @@
+//! The outside: inputs, sinks, and the calls that read and write whole texts.
+#![tactic(auto)]
+
+mod device;
+mod memory_inputs;
+mod memory_sink;
+mod reading;
+mod slot_faults;
+mod writing;
+
+pub use device::{Failed, Inputs, Sink};
+pub use memory_inputs::MemoryInputs;
+pub use memory_sink::MemorySink;
+pub use reading::{ReadError, read_all};
+pub use writing::write_all;

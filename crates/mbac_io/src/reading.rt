@@ -1,0 +1,60 @@
+ghost use Rattle.std.specs.Prelude.{◌≡◌, ◌≢◌, ℕ, ◌<◌, ◌≤◌, ◌⊎◌, length, vec_len, IfOk};
+ghost use Rattle.mbac_io.specs.Device.{Rose, WhereTold, Keeps, TakesSome, TakesAll};
+
+use crate::device::Inputs;
+use std::alloc::Global;
+
+/// Why a slot could not be read whole.
+#[derive(Clone, Copy, Debug, PartialEq, Eq)]
+pub enum ReadError {
+    /// A read failed.
+    Failed,
+    /// The slot has more bytes than the limit.
+    TooLong,
+    /// There is no memory for the bytes.
+    OutOfMemory,
+}
+
+const PIECE: usize = 4096;
+
+/// Reads what the slot has left, at most `limit` bytes.
+///
+/// It stops with `TooLong` at the first read that passes the limit. After an error some bytes are
+/// taken from the slot and lost.
+pub fn read_all<I: Inputs>(
+    alloc: Global,
+    inputs: &mut I,
+    slot: u32,
+    limit: usize,
+) -> Result<Vec<u8>, ReadError>
+    requires { 0 < limit }
+    ensures whole { IfOk result (λ bytes. TakesAll (I.left inputs.old slot) (I.left inputs.new slot) bytes.items) }
+    ensures within { IfOk result (λ bytes. vec_len bytes ≤ limit) }
+
+    // More bytes than the limit end in `TooLong`, unless a read fails or memory runs out before.
+    ensures too_long_only { result ≡ Err ReadError.TooLong → WhereTold (I.left inputs.old slot) (I.left inputs.new slot) (λ bytes. limit < length bytes) }
+    ensures too_long_where { WhereTold (I.left inputs.old slot) (I.left inputs.new slot) (λ bytes. limit < length bytes →
+        (result ≡ Err ReadError.TooLong) ⊎ (result ≡ Err ReadError.Failed) ⊎ (result ≡ Err ReadError.OutOfMemory)) }
+    ensures failed_rose { result ≡ Err ReadError.Failed → Rose (I.faults inputs.old slot) (I.faults inputs.new slot) }
+
+    ensures front_taken { TakesSome (I.left inputs.old slot) (I.left inputs.new slot) }
+    ensures others_kept { (other : ℕ) → other ≢ slot → Keeps (I.left inputs.old other) (I.left inputs.new other) }
+    ensures never_falls { (any : ℕ) → I.faults inputs.old any ≤ I.faults inputs.new any }
+{
+    let mut bytes = Vec::new(alloc);
+    let mut piece = [0; PIECE];
+    loop {
+        let Ok(count) = inputs.read(slot, &mut piece) else {
+            return Err(ReadError::Failed);
+        };
+        if count == 0 {
+            return Ok(bytes);
+        }
+        if limit - bytes.len() < count {
+            return Err(ReadError::TooLong);
+        }
+        if bytes.extend_from_slice(&piece[..count]).is_err() {
+            return Err(ReadError::OutOfMemory);
+        }
+    }
+}
