@@ -12,3 +12,7 @@ name_limit = 255
 -- the most parentheses open at any place of an expression's text in a checker
 abbrev pub parentheses_limit : ℕ
 parentheses_limit = 520
+
+-- the most bytes of a unit's text
+abbrev pub unit_text_limit : ℕ
+unit_text_limit = 1048576

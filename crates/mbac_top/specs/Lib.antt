@@ -1,0 +1,3 @@
+pub mod ThinForm
+pub mod Answers
+pub mod Compile
