@@ -1,8 +1,6 @@
-//! What PSL means.
+//! What PSL means: the definitions, and laws and examples of them that show what they say.
 #![tactic(auto)]
 
-mod laws;
-
-pub use laws::{
-    always_is_violated, always_is_weakly_violated, bar_of_bar_is_the_word, everywhere_is_each_place,
-};
+pub mod examples;
+pub mod laws;
+pub mod values;
