@@ -1,6 +1,6 @@
 -- Formulas and the words that satisfy them, after IEEE 1850-2010, Annex B. Weak sequences and `abort` are this project's
 -- own readings, for words that a simulation may cut off.
-use Rattle.std.specs.Prelude.{◌≡◌, ◌⊎◌, ℕ, suc, ◌<◌, List, IfSome, IsSomeAnd}
+use Rattle.std.specs.Prelude.{◌⊎◌, ℕ, suc, ◌<◌, List, IfSome, IsSomeAnd}
 use Rattle.psl_model.specs.Expr.{Expr}
 use Rattle.psl_meaning.specs.Word.{Word, with_tops, letter_at, Reaches, first, from, bar}
 use Rattle.psl_meaning.specs.Sequence.{CoreSere, Holds, Tight}

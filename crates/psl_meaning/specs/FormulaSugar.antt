@@ -2,7 +2,6 @@
 -- sequence and the overlapping `before` forms are this project's own readings.
 use Rattle.std.specs.Prelude.{ℕ, zero, suc, ◌+◌, ◌-◌, Bool, true, false}
 use Rattle.psl_model.specs.Expr.{Expr}
-use Rattle.psl_model.specs.Sere.{Sere}
 use Rattle.psl_model.specs.Formula as formula
 use Rattle.psl_model.specs.declared.formulas.Reach.{Reach}
 use Rattle.psl_model.specs.declared.formulas.Reach.TheVariants as reach

@@ -4,3 +4,4 @@ pub mod SequenceSugar
 pub mod Formula
 pub mod FormulaSugar
 pub mod Violation
+pub mod Examples

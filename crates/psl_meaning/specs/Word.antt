@@ -6,7 +6,6 @@
 --     bar w               w with tops and bottoms exchanged
 use Rattle.std.specs.Prelude.{ℕ, ◌-◌, List, [], ◌++◌, Option, Some, None, IsSome, map, take, drop, length, replicate, slice_get}
 
-
 -- the value of each signal, by its place
 abbrev pub Valuation : Type 0
 Valuation = List ℕ

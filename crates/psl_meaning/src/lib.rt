@@ -1,2 +1,6 @@
-//! What PSL means.
+//! What PSL means: the definitions, and laws and examples of them that show what they say.
 #![tactic(auto)]
+
+pub mod examples;
+pub mod laws;
+pub mod values;

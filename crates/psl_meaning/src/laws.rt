@@ -1,0 +1,67 @@
+//! Laws of words and formulas. The functions do nothing: each contract is the law.
+
+ghost use Rattle.std.specs.Prelude.{◌≡◌, ◌≢◌, ◌↔◌, ◌<◌, ◌≤◌, ℕ, List, Some, Any, drop, length, map, slice_get};
+ghost use Rattle.psl_model.specs.Expr.{Expr};
+ghost use Rattle.psl_model.specs.Formula.{Formula, bool, always};
+ghost use Rattle.psl_model.specs.Value.{own_value};
+ghost use Rattle.psl_meaning.specs.Word.{Valuation, Letter, Word, bar, finite, with_tops, from, letter_at, Reaches, valuation, top};
+ghost use Rattle.psl_meaning.specs.Formula.{CoreFormula, Satisfies};
+ghost use Rattle.psl_meaning.specs.FormulaSugar.{everywhere};
+ghost use Rattle.psl_meaning.specs.Violation.{WeaklyViolates, Violates};
+
+/// To exchange tops and bottoms twice gives the word.
+pub fn bar_of_bar_is_the_word()
+    ensures { (w : Word) → bar (bar w) ≡ w }
+{}
+
+/// A word of letters and then tops never ends. At a place of a list of valuations its letter is the valuation, and from
+/// the list's end on it is top.
+pub fn tops_follow_the_trace()
+    ensures never_ends { (letters : List Letter) (k : ℕ) → Reaches (with_tops letters) k }
+    ensures in_the_list { (trace : List Valuation) (k : ℕ) (values : Valuation) →
+        slice_get trace k ≡ Some values → letter_at (with_tops (map valuation trace)) k ≡ Some (valuation values) }
+    ensures after_the_list { (trace : List Valuation) (k : ℕ) →
+        length trace ≤ k → letter_at (with_tops (map valuation trace)) k ≡ Some top }
+{}
+
+/// A word that ends after a list of valuations has a place for each of them, with it as the letter, and no other.
+pub fn an_ended_word_is_the_trace()
+    ensures places { (trace : List Valuation) (k : ℕ) → Reaches (finite (map valuation trace)) k ↔ k < length trace }
+    ensures letters { (trace : List Valuation) (k : ℕ) (values : Valuation) →
+        slice_get trace k ≡ Some values → letter_at (finite (map valuation trace)) k ≡ Some (valuation values) }
+{}
+
+/// `G f` holds of a word exactly if `f` is refuted at none of its places, up to its first top.
+pub fn everywhere_is_each_place()
+    ensures { (widths : List ℕ) (f : CoreFormula) (w : Word) →
+        Satisfies widths (everywhere f) w
+        ↔ ((k : ℕ) → Reaches w k → ((j : ℕ) → j < k → letter_at w j ≢ Some top) → ¬ ¬ Satisfies widths f (from k w)) }
+{}
+
+/// A list of valuations leaves `always f` open exactly if what is left of the list leaves `f` open, from each of its
+/// places and from its end on.
+pub fn always_is_its_body_at_each_place_so_far()
+    ensures { (widths : List ℕ) (f : Formula) (trace : List Valuation) →
+        ¬ WeaklyViolates widths (always f) trace
+        ↔ ((k : ℕ) → k ≤ length trace → ¬ WeaklyViolates widths f (drop k trace)) }
+{}
+
+/// As a word that ends, a list of valuations does not violate `always f` exactly if what is left of it does not violate
+/// `f`, from each of its places on.
+pub fn always_is_its_body_at_each_place()
+    ensures { (widths : List ℕ) (f : Formula) (trace : List Valuation) →
+        ¬ Violates widths (always f) trace ↔ ((k : ℕ) → k < length trace → ¬ Violates widths f (drop k trace)) }
+{}
+
+/// A list of valuations violates `always b` already exactly if one of them gives `b` the value 0.
+pub fn always_is_weakly_violated()
+    ensures { (widths : List ℕ) (e : Expr) (trace : List Valuation) →
+        WeaklyViolates widths (always (bool e)) trace ↔ Any (λ values. own_value widths values e ≡ 0) trace }
+{}
+
+/// A list of valuations violates `always b` as a word that ends exactly if one of them gives `b` the value 0.
+/// The empty list violates it neither way.
+pub fn always_is_violated()
+    ensures { (widths : List ℕ) (e : Expr) (trace : List Valuation) →
+        Violates widths (always (bool e)) trace ↔ Any (λ values. own_value widths values e ≡ 0) trace }
+{}
