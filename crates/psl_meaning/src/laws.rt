@@ -1,6 +1,6 @@
 //! Laws of words and formulas. The functions do nothing: each contract is the law.
 
-ghost use Rattle.std.specs.Prelude.{◌≡◌, ◌≢◌, ◌↔◌, ◌<◌, ◌≤◌, ℕ, List, Some, Any, drop, length, map, slice_get};
+ghost use Rattle.std.specs.Prelude.{◌≡◌, ◌≢◌, ◌↔◌, ◌<◌, ◌≤◌, ◌++◌, ℕ, List, Some, Any, drop, length, map, slice_get};
 ghost use Rattle.psl_model.specs.Expr.{Expr};
 ghost use Rattle.psl_model.specs.Formula.{Formula, bool, always};
 ghost use Rattle.psl_model.specs.Value.{own_value};
@@ -36,6 +36,19 @@ pub fn everywhere_is_each_place()
     ensures { (widths : List ℕ) (f : CoreFormula) (w : Word) →
         Satisfies widths (everywhere f) w
         ↔ ((k : ℕ) → Reaches w k → ((j : ℕ) → j < k → letter_at w j ≢ Some top) → ¬ ¬ Satisfies widths f (from k w)) }
+{}
+
+/// Words with the same letters satisfy the same formulas: where a word keeps them, in its list or in how it goes on,
+/// doesn't matter.
+pub fn letters_alone_decide()
+    ensures { (widths : List ℕ) (f : CoreFormula) (w v : Word) →
+        ((k : ℕ) → letter_at w k ≡ letter_at v k) → Satisfies widths f w ↔ Satisfies widths f v }
+{}
+
+/// What a list of valuations violates already, each longer list that begins with it violates already.
+pub fn weak_violation_persists()
+    ensures { (widths : List ℕ) (f : Formula) (trace more : List Valuation) →
+        WeaklyViolates widths f trace → WeaklyViolates widths f (trace ++ more) }
 {}
 
 /// A list of valuations leaves `always f` open exactly if what is left of the list leaves `f` open, from each of its
