@@ -1,2 +1,4 @@
 pub mod Words
 pub mod Always
+pub mod Order
+pub mod Repeat
