@@ -1,3 +1,5 @@
 pub mod Module
+pub mod View
 pub mod Text
+pub mod Growth
 pub mod Run

@@ -41,10 +41,17 @@ register_stem = codes "mbac_r"
 abbrev pub wire_stem : List ℕ
 wire_stem = codes "mbac_n"
 
+abbrev pub port_names : Module → List (List ℕ)
+port_names m = map (λ (p : Signal). p.name) m.ports
+
+abbrev pub register_names : Module → List (List ℕ)
+register_names m = numbered_names register_stem 0 m.registers
+
+abbrev pub wire_names : Module → List (List ℕ)
+wire_names m = numbered_names wire_stem 0 m.wires
+
 abbrev pub names_of : Module → List (List ℕ)
-names_of m =
-    codes "mbac_rst" ∷ codes "mbac_eot" ∷ map (λ (p : Signal). p.name) m.ports
-    ++ numbered_names register_stem 0 m.registers ++ numbered_names wire_stem 0 m.wires
+names_of m = codes "mbac_rst" ∷ codes "mbac_eot" ∷ port_names m ++ register_names m ++ wire_names m
 
 -- the widths of the names but for the wires
 abbrev pub state_widths : Module → List ℕ

@@ -1,2 +1,11 @@
 //! Checker modules and their text.
 #![tactic(auto)]
+
+mod bytes;
+mod expressions;
+mod module;
+mod names;
+mod printing;
+
+pub use module::{Module, RegDecl, WireDecl};
+pub use printing::print;

@@ -1,0 +1,73 @@
+//! The names of a module's table.
+
+ghost use Rattle.std.specs.Prelude.{◌≡◌, ◌++◌, OnOk, decimal};
+ghost use Rattle.verilog_text.specs.Module.{port_names, register_names, wire_names, names_of, register_stem, wire_stem};
+ghost use Rattle.verilog_text.specs.Text.{name_at};
+ghost use Rattle.verilog_text.specs.View.{module_of};
+ghost use Rattle.verilog_text.specs.Growth.{Extends};
+
+use crate::bytes::{put, put_number};
+use crate::module::Module;
+use std::alloc::AllocError;
+
+/// The name at a place of the module's table, and nothing for a place that it doesn't have.
+pub fn put_name(module: &Module, place: usize, out: &mut Vec<u8>) -> Result<(), AllocError>
+    ensures text { OnOk result (out.new.items ≡ out.old.items ++ name_at (names_of (module_of module.now)) place) }
+    ensures kept { Extends out.old.items out.new.items }
+{
+    match place {
+        0 => put(b"mbac_rst", out),
+        1 => put(b"mbac_eot", out),
+        _ => put_declared_name(module, place - 2, out),
+    }
+}
+
+fn put_declared_name(
+    module: &Module,
+    place: usize,
+    out: &mut Vec<u8>,
+) -> Result<(), AllocError>
+    ensures text { OnOk result (out.new.items ≡ out.old.items
+        ++ name_at (port_names (module_of module.now) ++ register_names (module_of module.now) ++ wire_names (module_of module.now)) place) }
+    ensures kept { Extends out.old.items out.new.items }
+{
+    match module.ports.get(place) {
+        Some(port) => put(port.name.bytes(), out),
+        None => put_numbered_name(module, place - module.ports.len(), out),
+    }
+}
+
+fn put_numbered_name(
+    module: &Module,
+    place: usize,
+    out: &mut Vec<u8>,
+) -> Result<(), AllocError>
+    ensures text { OnOk result (out.new.items ≡ out.old.items
+        ++ name_at (register_names (module_of module.now) ++ wire_names (module_of module.now)) place) }
+    ensures kept { Extends out.old.items out.new.items }
+{
+    let registers = module.regs.len();
+    if place < registers {
+        put_register_name(place, out)
+    } else if place - registers < module.wires.len() {
+        put_wire_name(place - registers, out)
+    } else {
+        Ok(())
+    }
+}
+
+pub fn put_register_name(number: usize, out: &mut Vec<u8>) -> Result<(), AllocError>
+    ensures text { OnOk result (out.new.items ≡ out.old.items ++ (register_stem ++ decimal number)) }
+    ensures kept { Extends out.old.items out.new.items }
+{
+    put(b"mbac_r", out)?;
+    put_number(number, out)
+}
+
+pub fn put_wire_name(number: usize, out: &mut Vec<u8>) -> Result<(), AllocError>
+    ensures text { OnOk result (out.new.items ≡ out.old.items ++ (wire_stem ++ decimal number)) }
+    ensures kept { Extends out.old.items out.new.items }
+{
+    put(b"mbac_n", out)?;
+    put_number(number, out)
+}

@@ -1,0 +1,198 @@
+//! The text of a module, line by line.
+
+ghost use Rattle.std.specs.Prelude.{◌≡◌, ◌++◌, OnOk, map, flat_map};
+ghost use Rattle.verilog_text.specs.Module.{names_of};
+ghost use Rattle.verilog_text.specs.Text.{each_numbered, range_text, header_line, report_line, input_lines, port_line, output_line, register_line, wire_line, fail_line, always_line, end_line, spelling};
+ghost use Rattle.verilog_text.specs.View.{module_of, register_of, wire_of};
+ghost use Rattle.verilog_text.specs.Growth.{Extends};
+
+use crate::bytes::{put, put_number};
+use crate::expressions::{put_expression, put_sized};
+use crate::module::{Module, RegDecl, WireDecl};
+use crate::names::{put_register_name, put_wire_name};
+use psl_model::{Name, Signal};
+use std::alloc::AllocError;
+
+/// Appends the module's text. Every module is spelled; the text of a lawful one is a checker text.
+pub fn print(module: &Module, out: &mut Vec<u8>) -> Result<(), AllocError>
+    ensures text { OnOk result (out.new.items ≡ out.old.items ++ spelling (module_of module.now)) }
+    ensures kept { Extends out.old.items out.new.items }
+{
+    put_header(module, out)?;
+    put_report(&module.report, out)?;
+    put_inputs(out)?;
+    put_ports(module.ports.as_slice(), out)?;
+    put_output(out)?;
+    put_registers(module.regs.as_slice(), out)?;
+    put_wires(module, out)?;
+    put_fail(module, out)?;
+    put_always(module, out)?;
+    put(b"endmodule\n", out)
+}
+
+fn put_header(module: &Module, out: &mut Vec<u8>) -> Result<(), AllocError>
+    ensures text { OnOk result (out.new.items ≡ out.old.items ++ header_line (module_of module.now)) }
+    ensures kept { Extends out.old.items out.new.items }
+{
+    put(b"module ", out)?;
+    put(module.name.bytes(), out)?;
+    put(b" (mbac_clk, mbac_rst, mbac_eot, ", out)?;
+    for port in module.ports.as_slice() {
+        put(port.name.bytes(), out)?;
+        put(b", ", out)?;
+    }
+    put(b"mbac_fail);\n", out)
+}
+
+fn put_report(report: &Option<Name>, out: &mut Vec<u8>) -> Result<(), AllocError>
+    ensures text { OnOk result (out.new.items ≡ out.old.items ++ report_line report.now) }
+    ensures kept { Extends out.old.items out.new.items }
+{
+    let Some(text) = report else {
+        return Ok(());
+    };
+    put(b"  // ", out)?;
+    put(text.bytes(), out)?;
+    put(b"\n", out)
+}
+
+fn put_inputs(out: &mut Vec<u8>) -> Result<(), AllocError>
+    ensures text { OnOk result (out.new.items ≡ out.old.items ++ input_lines) }
+    ensures kept { Extends out.old.items out.new.items }
+{
+    put(b"  input mbac_clk;\n", out)?;
+    put(b"  input mbac_rst;\n", out)?;
+    put(b"  input mbac_eot;\n", out)
+}
+
+fn put_ports(ports: &[Signal], out: &mut Vec<u8>) -> Result<(), AllocError>
+    ensures text { OnOk result (out.new.items ≡ out.old.items ++ flat_map port_line ports.now) }
+    ensures kept { Extends out.old.items out.new.items }
+{
+    for port in ports {
+        put_port(port, out)?;
+    }
+    Ok(())
+}
+
+fn put_port(port: &Signal, out: &mut Vec<u8>) -> Result<(), AllocError>
+    ensures text { OnOk result (out.new.items ≡ out.old.items ++ port_line port.now) }
+    ensures kept { Extends out.old.items out.new.items }
+{
+    put(b"  input ", out)?;
+    put_range(port.width, out)?;
+    put(port.name.bytes(), out)?;
+    put(b";\n", out)
+}
+
+/// The range of a vector, and nothing for one bit.
+fn put_range(width: u32, out: &mut Vec<u8>) -> Result<(), AllocError>
+    ensures text { OnOk result (out.new.items ≡ out.old.items ++ range_text width) }
+    ensures kept { Extends out.old.items out.new.items }
+{
+    if width == 1 {
+        return Ok(());
+    }
+    put(b"[", out)?;
+    put_number(width.saturating_sub(1), out)?;
+    put(b":0] ", out)
+}
+
+fn put_output(out: &mut Vec<u8>) -> Result<(), AllocError>
+    ensures text { OnOk result (out.new.items ≡ out.old.items ++ output_line) }
+    ensures kept { Extends out.old.items out.new.items }
+{
+    put(b"  output mbac_fail;\n", out)
+}
+
+fn put_registers(registers: &[RegDecl], out: &mut Vec<u8>) -> Result<(), AllocError>
+    ensures text { OnOk result (out.new.items ≡ out.old.items ++ each_numbered register_line 0 (map register_of registers.now)) }
+    ensures kept { Extends out.old.items out.new.items }
+{
+    for (number, register) in registers.iter().enumerate() {
+        put_register(number, register, out)?;
+    }
+    Ok(())
+}
+
+fn put_register(
+    number: usize,
+    register: &RegDecl,
+    out: &mut Vec<u8>,
+) -> Result<(), AllocError>
+    ensures text { OnOk result (out.new.items ≡ out.old.items ++ register_line number (register_of register.now)) }
+    ensures kept { Extends out.old.items out.new.items }
+{
+    put(b"  reg ", out)?;
+    put_range(register.width, out)?;
+    put_register_name(number, out)?;
+    put(b";\n", out)
+}
+
+fn put_wires(module: &Module, out: &mut Vec<u8>) -> Result<(), AllocError>
+    ensures text { OnOk result (out.new.items ≡ out.old.items
+        ++ each_numbered (wire_line (names_of (module_of module.now))) 0 (map wire_of module.now.wires)) }
+    ensures kept { Extends out.old.items out.new.items }
+{
+    for (number, wire) in module.wires.as_slice().iter().enumerate() {
+        put_wire(module, number, wire, out)?;
+    }
+    Ok(())
+}
+
+fn put_wire(
+    module: &Module,
+    number: usize,
+    wire: &WireDecl,
+    out: &mut Vec<u8>,
+) -> Result<(), AllocError>
+    ensures text { OnOk result (out.new.items ≡ out.old.items ++ wire_line (names_of (module_of module.now)) number (wire_of wire.now)) }
+    ensures kept { Extends out.old.items out.new.items }
+{
+    put(b"  wire ", out)?;
+    put_range(wire.width, out)?;
+    put_wire_name(number, out)?;
+    put(b" = ", out)?;
+    put_expression(module, &wire.value, out)?;
+    put(b";\n", out)
+}
+
+fn put_fail(module: &Module, out: &mut Vec<u8>) -> Result<(), AllocError>
+    ensures text { OnOk result (out.new.items ≡ out.old.items
+        ++ fail_line (names_of (module_of module.now)) (module_of module.now).fail) }
+    ensures kept { Extends out.old.items out.new.items }
+{
+    put(b"  assign mbac_fail = ", out)?;
+    put_expression(module, &module.fail, out)?;
+    put(b";\n", out)
+}
+
+fn put_always(module: &Module, out: &mut Vec<u8>) -> Result<(), AllocError>
+    ensures text { OnOk result (out.new.items ≡ out.old.items
+        ++ each_numbered (always_line (names_of (module_of module.now))) 0 (map register_of module.now.regs)) }
+    ensures kept { Extends out.old.items out.new.items }
+{
+    for (number, register) in module.regs.as_slice().iter().enumerate() {
+        put_update(module, number, register, out)?;
+    }
+    Ok(())
+}
+
+fn put_update(
+    module: &Module,
+    number: usize,
+    register: &RegDecl,
+    out: &mut Vec<u8>,
+) -> Result<(), AllocError>
+    ensures text { OnOk result (out.new.items ≡ out.old.items
+        ++ always_line (names_of (module_of module.now)) number (register_of register.now)) }
+    ensures kept { Extends out.old.items out.new.items }
+{
+    put(b"  always @(posedge mbac_clk) ", out)?;
+    put_register_name(number, out)?;
+    put(b" <= (mbac_rst ? ", out)?;
+    put_sized(register.width, register.init, out)?;
+    put(b" : ", out)?;
+    put_expression(module, &register.next, out)?;
+    put(b");\n", out)
+}
