@@ -50,7 +50,7 @@ register_names m = numbered_names register_stem 0 m.registers
 abbrev pub wire_names : Module → List (List ℕ)
 wire_names m = numbered_names wire_stem 0 m.wires
 
-abbrev pub names_of : Module → List (List ℕ)
+unfoldable pub names_of : Module → List (List ℕ)
 names_of m = codes "mbac_rst" ∷ codes "mbac_eot" ∷ port_names m ++ register_names m ++ wire_names m
 
 -- the widths of the names but for the wires

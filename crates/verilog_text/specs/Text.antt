@@ -50,7 +50,7 @@ name_at (name ∷ names) zero = name
 name_at (name ∷ names) (suc place) = name_at names place
 
 -- a literal with its size
-abbrev pub sized_text : (width value : ℕ) → List ℕ
+unfoldable pub sized_text : (width value : ℕ) → List ℕ
 sized_text width value = decimal width ++ codes "'d" ++ decimal value
 
 -- an expression over a table of names
@@ -65,43 +65,46 @@ expression_text names (binary op a b) = codes "(" ++ expression_text names a ++ 
 expression_text names (choice test first second) = codes "(" ++ expression_text names test ++ codes " ? " ++ expression_text names first ++ codes " : " ++ expression_text names second ++ codes ")"
 
 -- the range of a width: none for one bit
-abbrev pub range_text : (width : ℕ) → List ℕ
+unfoldable pub range_text : (width : ℕ) → List ℕ
 range_text width = if width == 1 then [] else codes "[" ++ decimal (width - 1) ++ codes ":0] "
 
 -- the lines, in their order
-abbrev pub header_line : Module → List ℕ
+unfoldable pub header_line : Module → List ℕ
 header_line m = line (codes "module " ++ m.name ++ codes " (mbac_clk, mbac_rst, mbac_eot, " ++ flat_map (λ (p : Signal). p.name ++ codes ", ") m.ports ++ codes "mbac_fail);")
 
-abbrev pub report_line : Option (List ℕ) → List ℕ
+unfoldable pub report_line : Option (List ℕ) → List ℕ
 report_line None = []
 report_line (Some text) = line (codes "  // " ++ text)
 
-abbrev pub input_lines : List ℕ
+unfoldable pub input_lines : List ℕ
 input_lines = line (codes "  input mbac_clk;") ++ line (codes "  input mbac_rst;") ++ line (codes "  input mbac_eot;")
 
-abbrev pub port_line : Signal → List ℕ
+unfoldable pub port_line : Signal → List ℕ
 port_line p = line (codes "  input " ++ range_text p.width ++ p.name ++ codes ";")
 
-abbrev pub output_line : List ℕ
+unfoldable pub output_line : List ℕ
 output_line = line (codes "  output mbac_fail;")
 
-abbrev pub register_name : ℕ → List ℕ
+unfoldable pub register_name : ℕ → List ℕ
 register_name k = register_stem ++ decimal k
 
-abbrev pub register_line : ℕ → Register → List ℕ
+unfoldable pub wire_name : ℕ → List ℕ
+wire_name k = wire_stem ++ decimal k
+
+unfoldable pub register_line : ℕ → Register → List ℕ
 register_line k r = line (codes "  reg " ++ range_text r.width ++ register_name k ++ codes ";")
 
-abbrev pub wire_line : List (List ℕ) → ℕ → Wire → List ℕ
-wire_line names k w = line (codes "  wire " ++ range_text w.width ++ wire_stem ++ decimal k ++ codes " = " ++ expression_text names w.value ++ codes ";")
+unfoldable pub wire_line : List (List ℕ) → ℕ → Wire → List ℕ
+wire_line names k w = line (codes "  wire " ++ range_text w.width ++ wire_name k ++ codes " = " ++ expression_text names w.value ++ codes ";")
 
-abbrev pub fail_line : List (List ℕ) → Expr → List ℕ
+unfoldable pub fail_line : List (List ℕ) → Expr → List ℕ
 fail_line names e = line (codes "  assign mbac_fail = " ++ expression_text names e ++ codes ";")
 
 -- what the register becomes at a clock edge: its initial value under reset
-abbrev pub always_line : List (List ℕ) → ℕ → Register → List ℕ
+unfoldable pub always_line : List (List ℕ) → ℕ → Register → List ℕ
 always_line names k r = line (codes "  always @(posedge mbac_clk) " ++ register_name k ++ codes " <= (mbac_rst ? " ++ sized_text r.width r.initial ++ codes " : " ++ expression_text names r.next ++ codes ");")
 
-abbrev pub end_line : List ℕ
+unfoldable pub end_line : List ℕ
 end_line = line (codes "endmodule")
 
 abbrev pub spelling : Module → List ℕ

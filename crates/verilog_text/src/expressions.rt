@@ -14,6 +14,7 @@ use psl_model::{BinOp, Expr, UnOp};
 use std::alloc::AllocError;
 
 /// An expression over the module's table of names. It goes as deep as the expression does.
+#[tactic(auto, using(crate::proofs::Growth::extends_twice))]
 pub fn put_expression(
     module: &Module,
     expr: &Expr,
@@ -59,6 +60,7 @@ pub fn put_expression(
     }
 }
 
+#[tactic(auto, using(crate::proofs::Growth::extends_twice))]
 fn put_bit(number: u32, out: &mut Vec<u8>) -> Result<(), AllocError>
     ensures text { OnOk result (out.new.items ≡ out.old.items ++ (codes "[" ++ decimal number ++ codes "]")) }
     ensures kept { Extends out.old.items out.new.items }
@@ -68,6 +70,7 @@ fn put_bit(number: u32, out: &mut Vec<u8>) -> Result<(), AllocError>
     put(b"]", out)
 }
 
+#[tactic(auto, using(crate::proofs::Growth::extends_twice))]
 fn put_part(high: u32, low: u32, out: &mut Vec<u8>) -> Result<(), AllocError>
     ensures text { OnOk result (out.new.items ≡ out.old.items
         ++ (codes "[" ++ decimal high ++ codes ":" ++ decimal low ++ codes "]")) }
@@ -81,6 +84,7 @@ fn put_part(high: u32, low: u32, out: &mut Vec<u8>) -> Result<(), AllocError>
 }
 
 /// A number with its width.
+#[tactic(auto, using(crate::proofs::Growth::extends_twice), unfolding(crate::specs::Text::sized_text))]
 pub fn put_sized(width: u32, value: u128, out: &mut Vec<u8>) -> Result<(), AllocError>
     ensures text { OnOk result (out.new.items ≡ out.old.items ++ sized_text width value) }
     ensures kept { Extends out.old.items out.new.items }
@@ -90,6 +94,7 @@ pub fn put_sized(width: u32, value: u128, out: &mut Vec<u8>) -> Result<(), Alloc
     put_number(value, out)
 }
 
+#[tactic(auto, using(crate::proofs::Growth::extends_twice))]
 fn put_infix(op: BinOp, out: &mut Vec<u8>) -> Result<(), AllocError>
     ensures text { OnOk result (out.new.items ≡ out.old.items ++ (codes " " ++ binary_symbol op ++ codes " ")) }
     ensures kept { Extends out.old.items out.new.items }

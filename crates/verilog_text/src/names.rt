@@ -1,8 +1,8 @@
 //! The names of a module's table.
 
-ghost use Rattle.std.specs.Prelude.{◌≡◌, ◌++◌, OnOk, decimal};
-ghost use Rattle.verilog_text.specs.Module.{port_names, register_names, wire_names, names_of, register_stem, wire_stem};
-ghost use Rattle.verilog_text.specs.Text.{name_at};
+ghost use Rattle.std.specs.Prelude.{◌≡◌, ◌++◌, OnOk};
+ghost use Rattle.verilog_text.specs.Module.{port_names, register_names, wire_names, names_of};
+ghost use Rattle.verilog_text.specs.Text.{name_at, register_name, wire_name};
 ghost use Rattle.verilog_text.specs.View.{module_of};
 ghost use Rattle.verilog_text.specs.Growth.{Extends};
 
@@ -11,6 +11,7 @@ use crate::module::Module;
 use std::alloc::AllocError;
 
 /// The name at a place of the module's table, and nothing for a place that it doesn't have.
+#[tactic(auto, using(crate::proofs::Places::reset_at, crate::proofs::Places::end_at, crate::proofs::Places::declared_at))]
 pub fn put_name(module: &Module, place: usize, out: &mut Vec<u8>) -> Result<(), AllocError>
     ensures text { OnOk result (out.new.items ≡ out.old.items ++ name_at (names_of (module_of module.now)) place) }
     ensures kept { Extends out.old.items out.new.items }
@@ -22,6 +23,7 @@ pub fn put_name(module: &Module, place: usize, out: &mut Vec<u8>) -> Result<(), 
     }
 }
 
+#[tactic(auto, using(crate::proofs::Places::port_at, crate::proofs::Places::numbered_at))]
 fn put_declared_name(
     module: &Module,
     place: usize,
@@ -37,6 +39,7 @@ fn put_declared_name(
     }
 }
 
+#[tactic(auto, using(crate::proofs::Places::register_at, crate::proofs::Places::wire_at, crate::proofs::Places::none_at))]
 fn put_numbered_name(
     module: &Module,
     place: usize,
@@ -56,16 +59,18 @@ fn put_numbered_name(
     }
 }
 
+#[tactic(auto, using(crate::proofs::Growth::extends_twice), unfolding(crate::specs::Text::register_name))]
 pub fn put_register_name(number: usize, out: &mut Vec<u8>) -> Result<(), AllocError>
-    ensures text { OnOk result (out.new.items ≡ out.old.items ++ (register_stem ++ decimal number)) }
+    ensures text { OnOk result (out.new.items ≡ out.old.items ++ register_name number) }
     ensures kept { Extends out.old.items out.new.items }
 {
     put(b"mbac_r", out)?;
     put_number(number, out)
 }
 
+#[tactic(auto, using(crate::proofs::Growth::extends_twice), unfolding(crate::specs::Text::wire_name))]
 pub fn put_wire_name(number: usize, out: &mut Vec<u8>) -> Result<(), AllocError>
-    ensures text { OnOk result (out.new.items ≡ out.old.items ++ (wire_stem ++ decimal number)) }
+    ensures text { OnOk result (out.new.items ≡ out.old.items ++ wire_name number) }
     ensures kept { Extends out.old.items out.new.items }
 {
     put(b"mbac_n", out)?;

@@ -1,6 +1,6 @@
 //! The text of a module, line by line.
 
-ghost use Rattle.std.specs.Prelude.{◌≡◌, ◌++◌, OnOk, map, flat_map};
+ghost use Rattle.std.specs.Prelude.{◌≡◌, ◌++◌, OnOk, codes, map, flat_map};
 ghost use Rattle.verilog_text.specs.Module.{names_of};
 ghost use Rattle.verilog_text.specs.Text.{each_numbered, range_text, header_line, report_line, input_lines, port_line, output_line, register_line, wire_line, fail_line, always_line, end_line, spelling};
 ghost use Rattle.verilog_text.specs.View.{module_of, register_of, wire_of};
@@ -14,6 +14,7 @@ use psl_model::{Name, Signal};
 use std::alloc::AllocError;
 
 /// Appends the module's text. Every module is spelled; the text of a lawful one is a checker text.
+#[tactic(auto, using(crate::proofs::Growth::extends_twice), unfolding(crate::specs::Text::end_line))]
 pub fn print(module: &Module, out: &mut Vec<u8>) -> Result<(), AllocError>
     ensures text { OnOk result (out.new.items ≡ out.old.items ++ spelling (module_of module.now)) }
     ensures kept { Extends out.old.items out.new.items }
@@ -24,12 +25,13 @@ pub fn print(module: &Module, out: &mut Vec<u8>) -> Result<(), AllocError>
     put_ports(module.ports.as_slice(), out)?;
     put_output(out)?;
     put_registers(module.regs.as_slice(), out)?;
-    put_wires(module, out)?;
+    put_wires(module, module.wires.as_slice(), out)?;
     put_fail(module, out)?;
-    put_always(module, out)?;
+    put_updates(module, module.regs.as_slice(), out)?;
     put(b"endmodule\n", out)
 }
 
+#[tactic(auto, using(crate::proofs::Growth::extends_twice), unfolding(crate::specs::Text::header_line))]
 fn put_header(module: &Module, out: &mut Vec<u8>) -> Result<(), AllocError>
     ensures text { OnOk result (out.new.items ≡ out.old.items ++ header_line (module_of module.now)) }
     ensures kept { Extends out.old.items out.new.items }
@@ -37,13 +39,23 @@ fn put_header(module: &Module, out: &mut Vec<u8>) -> Result<(), AllocError>
     put(b"module ", out)?;
     put(module.name.bytes(), out)?;
     put(b" (mbac_clk, mbac_rst, mbac_eot, ", out)?;
-    for port in module.ports.as_slice() {
-        put(port.name.bytes(), out)?;
-        put(b", ", out)?;
-    }
+    put_port_names(module.ports.as_slice(), out)?;
     put(b"mbac_fail);\n", out)
 }
 
+#[tactic(auto, using(crate::proofs::Growth::extends_twice, crate::proofs::Growth::extends_none))]
+fn put_port_names(ports: &[Signal], out: &mut Vec<u8>) -> Result<(), AllocError>
+    ensures text { OnOk result (out.new.items ≡ out.old.items ++ flat_map (λ p. p.name ++ codes ", ") ports.now) }
+    ensures kept { Extends out.old.items out.new.items }
+{
+    for port in ports {
+        put(port.name.bytes(), out)?;
+        put(b", ", out)?;
+    }
+    Ok(())
+}
+
+#[tactic(auto, using(crate::proofs::Growth::extends_twice), unfolding(crate::specs::Text::report_line))]
 fn put_report(report: &Option<Name>, out: &mut Vec<u8>) -> Result<(), AllocError>
     ensures text { OnOk result (out.new.items ≡ out.old.items ++ report_line report.now) }
     ensures kept { Extends out.old.items out.new.items }
@@ -56,6 +68,7 @@ fn put_report(report: &Option<Name>, out: &mut Vec<u8>) -> Result<(), AllocError
     put(b"\n", out)
 }
 
+#[tactic(auto, using(crate::proofs::Growth::extends_twice), unfolding(crate::specs::Text::input_lines))]
 fn put_inputs(out: &mut Vec<u8>) -> Result<(), AllocError>
     ensures text { OnOk result (out.new.items ≡ out.old.items ++ input_lines) }
     ensures kept { Extends out.old.items out.new.items }
@@ -65,6 +78,7 @@ fn put_inputs(out: &mut Vec<u8>) -> Result<(), AllocError>
     put(b"  input mbac_eot;\n", out)
 }
 
+#[tactic(auto, using(crate::proofs::Growth::extends_twice, crate::proofs::Growth::extends_none))]
 fn put_ports(ports: &[Signal], out: &mut Vec<u8>) -> Result<(), AllocError>
     ensures text { OnOk result (out.new.items ≡ out.old.items ++ flat_map port_line ports.now) }
     ensures kept { Extends out.old.items out.new.items }
@@ -75,6 +89,7 @@ fn put_ports(ports: &[Signal], out: &mut Vec<u8>) -> Result<(), AllocError>
     Ok(())
 }
 
+#[tactic(auto, using(crate::proofs::Growth::extends_twice), unfolding(crate::specs::Text::port_line))]
 fn put_port(port: &Signal, out: &mut Vec<u8>) -> Result<(), AllocError>
     ensures text { OnOk result (out.new.items ≡ out.old.items ++ port_line port.now) }
     ensures kept { Extends out.old.items out.new.items }
@@ -86,6 +101,7 @@ fn put_port(port: &Signal, out: &mut Vec<u8>) -> Result<(), AllocError>
 }
 
 /// The range of a vector, and nothing for one bit.
+#[tactic(auto, using(crate::proofs::Growth::extends_twice), unfolding(crate::specs::Text::range_text))]
 fn put_range(width: u32, out: &mut Vec<u8>) -> Result<(), AllocError>
     ensures text { OnOk result (out.new.items ≡ out.old.items ++ range_text width) }
     ensures kept { Extends out.old.items out.new.items }
@@ -98,6 +114,7 @@ fn put_range(width: u32, out: &mut Vec<u8>) -> Result<(), AllocError>
     put(b":0] ", out)
 }
 
+#[tactic(auto, using(crate::proofs::Growth::extends_twice), unfolding(crate::specs::Text::output_line))]
 fn put_output(out: &mut Vec<u8>) -> Result<(), AllocError>
     ensures text { OnOk result (out.new.items ≡ out.old.items ++ output_line) }
     ensures kept { Extends out.old.items out.new.items }
@@ -105,6 +122,7 @@ fn put_output(out: &mut Vec<u8>) -> Result<(), AllocError>
     put(b"  output mbac_fail;\n", out)
 }
 
+#[tactic(auto, using(crate::proofs::Growth::extends_twice, crate::proofs::Growth::extends_none))]
 fn put_registers(registers: &[RegDecl], out: &mut Vec<u8>) -> Result<(), AllocError>
     ensures text { OnOk result (out.new.items ≡ out.old.items ++ each_numbered register_line 0 (map register_of registers.now)) }
     ensures kept { Extends out.old.items out.new.items }
@@ -115,6 +133,7 @@ fn put_registers(registers: &[RegDecl], out: &mut Vec<u8>) -> Result<(), AllocEr
     Ok(())
 }
 
+#[tactic(auto, using(crate::proofs::Growth::extends_twice), unfolding(crate::specs::Text::register_line))]
 fn put_register(
     number: usize,
     register: &RegDecl,
@@ -129,17 +148,23 @@ fn put_register(
     put(b";\n", out)
 }
 
-fn put_wires(module: &Module, out: &mut Vec<u8>) -> Result<(), AllocError>
+#[tactic(auto, using(crate::proofs::Growth::extends_twice, crate::proofs::Growth::extends_none))]
+fn put_wires(
+    module: &Module,
+    wires: &[WireDecl],
+    out: &mut Vec<u8>,
+) -> Result<(), AllocError>
     ensures text { OnOk result (out.new.items ≡ out.old.items
-        ++ each_numbered (wire_line (names_of (module_of module.now))) 0 (map wire_of module.now.wires)) }
+        ++ each_numbered (wire_line (names_of (module_of module.now))) 0 (map wire_of wires.now)) }
     ensures kept { Extends out.old.items out.new.items }
 {
-    for (number, wire) in module.wires.as_slice().iter().enumerate() {
+    for (number, wire) in wires.iter().enumerate() {
         put_wire(module, number, wire, out)?;
     }
     Ok(())
 }
 
+#[tactic(auto, using(crate::proofs::Growth::extends_twice), unfolding(crate::specs::Text::wire_line))]
 fn put_wire(
     module: &Module,
     number: usize,
@@ -157,6 +182,7 @@ fn put_wire(
     put(b";\n", out)
 }
 
+#[tactic(auto, using(crate::proofs::Growth::extends_twice), unfolding(crate::specs::Text::fail_line))]
 fn put_fail(module: &Module, out: &mut Vec<u8>) -> Result<(), AllocError>
     ensures text { OnOk result (out.new.items ≡ out.old.items
         ++ fail_line (names_of (module_of module.now)) (module_of module.now).fail) }
@@ -167,17 +193,23 @@ fn put_fail(module: &Module, out: &mut Vec<u8>) -> Result<(), AllocError>
     put(b";\n", out)
 }
 
-fn put_always(module: &Module, out: &mut Vec<u8>) -> Result<(), AllocError>
+#[tactic(auto, using(crate::proofs::Growth::extends_twice, crate::proofs::Growth::extends_none))]
+fn put_updates(
+    module: &Module,
+    registers: &[RegDecl],
+    out: &mut Vec<u8>,
+) -> Result<(), AllocError>
     ensures text { OnOk result (out.new.items ≡ out.old.items
-        ++ each_numbered (always_line (names_of (module_of module.now))) 0 (map register_of module.now.regs)) }
+        ++ each_numbered (always_line (names_of (module_of module.now))) 0 (map register_of registers.now)) }
     ensures kept { Extends out.old.items out.new.items }
 {
-    for (number, register) in module.regs.as_slice().iter().enumerate() {
+    for (number, register) in registers.iter().enumerate() {
         put_update(module, number, register, out)?;
     }
     Ok(())
 }
 
+#[tactic(auto, using(crate::proofs::Growth::extends_twice), unfolding(crate::specs::Text::always_line))]
 fn put_update(
     module: &Module,
     number: usize,

@@ -1,0 +1,10 @@
+use Rattle.std.proofs.Common.{◌≡◌, ◌++◌, map, take}
+use Rattle.verilog_text.specs.Growth.{Extends}
+use Rattle.verilog_text.specs.Text.{each_numbered, register_line}
+use Rattle.verilog_text.specs.View.{register_of}
+use Rattle.verilog_text.proofs.printing.put_registers.Given as goal
+
+abbrev pub invariant-loop-number : goal.invariant-loop-number
+invariant-loop-number l =
+    (l.out.items ≡ l.initial.out.items ++ each_numbered register_line 0 (map register_of (take l.number l.registers)))
+    × Extends l.initial.out.items l.out.items
