@@ -1,3 +1,4 @@
 pub mod Growth
+pub mod Joins
 pub mod Numbered
 pub mod Places

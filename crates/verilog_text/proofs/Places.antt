@@ -87,6 +87,12 @@ numbered_at m place le =
     ∙ second_part (port_names (module_of m)) (register_names (module_of m) ++ wire_names (module_of m)) place (place - length m.ports)
       (omega (arith, length-map m.ports (λ (p : Signal). p.name)))
 
+-- a look-up that finds nothing is past the end
+pub none_past : {X : Type 0} (xs : List X) (place : ℕ) → None ≡ slice_get xs place → length xs ≤ place
+none_past [] place e = omega arith
+none_past (x ∷ xs) zero e = cc
+none_past (x ∷ xs) (suc place) e = let past : length xs ≤ place = none_past xs place e in omega arith
+
 pub reset_at : (m : code.Module) → name_at (names_of (module_of m)) 0 ≡ codes "mbac_rst"
 unfolding names_of
 reset_at m = refl

@@ -53,6 +53,10 @@ name_at (name ∷ names) (suc place) = name_at names place
 unfoldable pub sized_text : (width value : ℕ) → List ℕ
 sized_text width value = decimal width ++ codes "'d" ++ decimal value
 
+-- an operator between its operands, with one blank on each side
+unfoldable pub infix_text : BinOp → List ℕ
+infix_text op = codes " " ++ binary_symbol op ++ codes " "
+
 -- an expression over a table of names
 abbrev pub expression_text : List (List ℕ) → Expr → List ℕ
 expression_text names (whole signal) = name_at names signal
@@ -61,7 +65,7 @@ expression_text names (part signal high low) = name_at names signal ++ codes "["
 expression_text names (plain number) = decimal number
 expression_text names (sized width value) = sized_text width value
 expression_text names (unary op a) = codes "(" ++ unary_symbol op ++ expression_text names a ++ codes ")"
-expression_text names (binary op a b) = codes "(" ++ expression_text names a ++ codes " " ++ binary_symbol op ++ codes " " ++ expression_text names b ++ codes ")"
+expression_text names (binary op a b) = codes "(" ++ expression_text names a ++ infix_text op ++ expression_text names b ++ codes ")"
 expression_text names (choice test first second) = codes "(" ++ expression_text names test ++ codes " ? " ++ expression_text names first ++ codes " : " ++ expression_text names second ++ codes ")"
 
 -- the range of a width: none for one bit
@@ -94,32 +98,39 @@ wire_name k = wire_stem ++ decimal k
 unfoldable pub register_line : ℕ → Register → List ℕ
 register_line k r = line (codes "  reg " ++ range_text r.width ++ register_name k ++ codes ";")
 
+unfoldable pub wire_declaration : ℕ → Wire → List ℕ
+wire_declaration k w = codes "  wire " ++ range_text w.width ++ wire_name k
+
 unfoldable pub wire_line : List (List ℕ) → ℕ → Wire → List ℕ
-wire_line names k w = line (codes "  wire " ++ range_text w.width ++ wire_name k ++ codes " = " ++ expression_text names w.value ++ codes ";")
+wire_line names k w = line (wire_declaration k w ++ codes " = " ++ expression_text names w.value ++ codes ";")
 
 unfoldable pub fail_line : List (List ℕ) → Expr → List ℕ
 fail_line names e = line (codes "  assign mbac_fail = " ++ expression_text names e ++ codes ";")
 
--- what the register becomes at a clock edge: its initial value under reset
+-- what a register becomes at a clock edge: its initial value under reset
+unfoldable pub update_text : List (List ℕ) → Register → List ℕ
+update_text names r = codes "(mbac_rst ? " ++ sized_text r.width r.initial ++ codes " : " ++ expression_text names r.next ++ codes ")"
+
 unfoldable pub always_line : List (List ℕ) → ℕ → Register → List ℕ
-always_line names k r = line (codes "  always @(posedge mbac_clk) " ++ register_name k ++ codes " <= (mbac_rst ? " ++ sized_text r.width r.initial ++ codes " : " ++ expression_text names r.next ++ codes ");")
+always_line names k r = line (codes "  always @(posedge mbac_clk) " ++ register_name k ++ codes " <= " ++ update_text names r ++ codes ";")
 
 unfoldable pub end_line : List ℕ
 end_line = line (codes "endmodule")
 
+-- the module's name, its inputs and its output
+unfoldable pub interface_lines : Module → List ℕ
+interface_lines m = header_line m ++ report_line m.report ++ input_lines ++ flat_map port_line m.ports ++ output_line
+
+-- its registers and its wires
+unfoldable pub declaration_lines : Module → List ℕ
+declaration_lines m = each_numbered register_line 0 m.registers ++ each_numbered (wire_line (names_of m)) 0 m.wires
+
+-- what drives its output, and what its registers become
+unfoldable pub behaviour_lines : Module → List ℕ
+behaviour_lines m = fail_line (names_of m) m.fail ++ each_numbered (always_line (names_of m)) 0 m.registers ++ end_line
+
 abbrev pub spelling : Module → List ℕ
-spelling m =
-    let names = names_of m in
-    header_line m
-    ++ report_line m.report
-    ++ input_lines
-    ++ flat_map port_line m.ports
-    ++ output_line
-    ++ each_numbered register_line 0 m.registers
-    ++ each_numbered (wire_line names) 0 m.wires
-    ++ fail_line names m.fail
-    ++ each_numbered (always_line names) 0 m.registers
-    ++ end_line
+spelling m = interface_lines m ++ declaration_lines m ++ behaviour_lines m
 
 -- no module or several, one after the other, with distinct names
 pub record StandsForModules (text : List ℕ) (modules : List Module) : Type 0 where

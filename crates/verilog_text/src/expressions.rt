@@ -3,7 +3,7 @@
 ghost use Rattle.std.specs.Prelude.{◌≡◌, ◌++◌, OnOk, codes, decimal};
 ghost use Rattle.psl_model.specs.View.{expr_of};
 ghost use Rattle.verilog_text.specs.Module.{names_of};
-ghost use Rattle.verilog_text.specs.Text.{unary_symbol, binary_symbol, sized_text, expression_text};
+ghost use Rattle.verilog_text.specs.Text.{unary_symbol, binary_symbol, infix_text, sized_text, expression_text};
 ghost use Rattle.verilog_text.specs.View.{module_of};
 ghost use Rattle.verilog_text.specs.Growth.{Extends};
 
@@ -94,9 +94,9 @@ pub fn put_sized(width: u32, value: u128, out: &mut Vec<u8>) -> Result<(), Alloc
     put_number(value, out)
 }
 
-#[tactic(auto, using(crate::proofs::Growth::extends_twice))]
+#[tactic(auto, using(crate::proofs::Growth::extends_twice), unfolding(crate::specs::Text::infix_text))]
 fn put_infix(op: BinOp, out: &mut Vec<u8>) -> Result<(), AllocError>
-    ensures text { OnOk result (out.new.items ≡ out.old.items ++ (codes " " ++ binary_symbol op ++ codes " ")) }
+    ensures text { OnOk result (out.new.items ≡ out.old.items ++ infix_text op) }
     ensures kept { Extends out.old.items out.new.items }
 {
     put(b" ", out)?;

@@ -2,7 +2,7 @@
 
 ghost use Rattle.std.specs.Prelude.{◌≡◌, ◌++◌, OnOk, codes, map, flat_map};
 ghost use Rattle.verilog_text.specs.Module.{names_of};
-ghost use Rattle.verilog_text.specs.Text.{each_numbered, range_text, header_line, report_line, input_lines, port_line, output_line, register_line, wire_line, fail_line, always_line, end_line, spelling};
+ghost use Rattle.verilog_text.specs.Text.{each_numbered, range_text, header_line, report_line, input_lines, port_line, output_line, register_line, wire_declaration, wire_line, fail_line, update_text, always_line, end_line, interface_lines, declaration_lines, behaviour_lines, spelling};
 ghost use Rattle.verilog_text.specs.View.{module_of, register_of, wire_of};
 ghost use Rattle.verilog_text.specs.Growth.{Extends};
 
@@ -14,21 +14,45 @@ use psl_model::{Name, Signal};
 use std::alloc::AllocError;
 
 /// Appends the module's text. Every module is spelled; the text of a lawful one is a checker text.
-#[tactic(auto, using(crate::proofs::Growth::extends_twice), unfolding(crate::specs::Text::end_line))]
+#[tactic(auto, using(crate::proofs::Growth::extends_twice))]
 pub fn print(module: &Module, out: &mut Vec<u8>) -> Result<(), AllocError>
     ensures text { OnOk result (out.new.items ≡ out.old.items ++ spelling (module_of module.now)) }
+    ensures kept { Extends out.old.items out.new.items }
+{
+    put_interface(module, out)?;
+    put_declarations(module, out)?;
+    put_behaviour(module, out)
+}
+
+#[tactic(auto, using(crate::proofs::Growth::extends_twice), unfolding(crate::specs::Text::interface_lines))]
+fn put_interface(module: &Module, out: &mut Vec<u8>) -> Result<(), AllocError>
+    ensures text { OnOk result (out.new.items ≡ out.old.items ++ interface_lines (module_of module.now)) }
     ensures kept { Extends out.old.items out.new.items }
 {
     put_header(module, out)?;
     put_report(&module.report, out)?;
     put_inputs(out)?;
     put_ports(module.ports.as_slice(), out)?;
-    put_output(out)?;
+    put_output(out)
+}
+
+#[tactic(auto, using(crate::proofs::Growth::extends_twice), unfolding(crate::specs::Text::declaration_lines))]
+fn put_declarations(module: &Module, out: &mut Vec<u8>) -> Result<(), AllocError>
+    ensures text { OnOk result (out.new.items ≡ out.old.items ++ declaration_lines (module_of module.now)) }
+    ensures kept { Extends out.old.items out.new.items }
+{
     put_registers(module.regs.as_slice(), out)?;
-    put_wires(module, module.wires.as_slice(), out)?;
+    put_wires(module, module.wires.as_slice(), out)
+}
+
+#[tactic(auto, using(crate::proofs::Growth::extends_twice), unfolding(crate::specs::Text::behaviour_lines))]
+fn put_behaviour(module: &Module, out: &mut Vec<u8>) -> Result<(), AllocError>
+    ensures text { OnOk result (out.new.items ≡ out.old.items ++ behaviour_lines (module_of module.now)) }
+    ensures kept { Extends out.old.items out.new.items }
+{
     put_fail(module, out)?;
-    put_updates(module, module.regs.as_slice(), out)?;
-    put(b"endmodule\n", out)
+    put_always_lines(module, module.regs.as_slice(), out)?;
+    put_end(out)
 }
 
 #[tactic(auto, using(crate::proofs::Growth::extends_twice), unfolding(crate::specs::Text::header_line))]
@@ -122,6 +146,14 @@ fn put_output(out: &mut Vec<u8>) -> Result<(), AllocError>
     put(b"  output mbac_fail;\n", out)
 }
 
+#[tactic(auto, using(crate::proofs::Growth::extends_twice), unfolding(crate::specs::Text::end_line))]
+fn put_end(out: &mut Vec<u8>) -> Result<(), AllocError>
+    ensures text { OnOk result (out.new.items ≡ out.old.items ++ end_line) }
+    ensures kept { Extends out.old.items out.new.items }
+{
+    put(b"endmodule\n", out)
+}
+
 #[tactic(auto, using(crate::proofs::Growth::extends_twice, crate::proofs::Growth::extends_none))]
 fn put_registers(registers: &[RegDecl], out: &mut Vec<u8>) -> Result<(), AllocError>
     ensures text { OnOk result (out.new.items ≡ out.old.items ++ each_numbered register_line 0 (map register_of registers.now)) }
@@ -174,12 +206,24 @@ fn put_wire(
     ensures text { OnOk result (out.new.items ≡ out.old.items ++ wire_line (names_of (module_of module.now)) number (wire_of wire.now)) }
     ensures kept { Extends out.old.items out.new.items }
 {
-    put(b"  wire ", out)?;
-    put_range(wire.width, out)?;
-    put_wire_name(number, out)?;
+    put_wire_declaration(number, wire, out)?;
     put(b" = ", out)?;
     put_expression(module, &wire.value, out)?;
     put(b";\n", out)
+}
+
+#[tactic(auto, using(crate::proofs::Growth::extends_twice), unfolding(crate::specs::Text::wire_declaration))]
+fn put_wire_declaration(
+    number: usize,
+    wire: &WireDecl,
+    out: &mut Vec<u8>,
+) -> Result<(), AllocError>
+    ensures text { OnOk result (out.new.items ≡ out.old.items ++ wire_declaration number (wire_of wire.now)) }
+    ensures kept { Extends out.old.items out.new.items }
+{
+    put(b"  wire ", out)?;
+    put_range(wire.width, out)?;
+    put_wire_name(number, out)
 }
 
 #[tactic(auto, using(crate::proofs::Growth::extends_twice), unfolding(crate::specs::Text::fail_line))]
@@ -194,7 +238,7 @@ fn put_fail(module: &Module, out: &mut Vec<u8>) -> Result<(), AllocError>
 }
 
 #[tactic(auto, using(crate::proofs::Growth::extends_twice, crate::proofs::Growth::extends_none))]
-fn put_updates(
+fn put_always_lines(
     module: &Module,
     registers: &[RegDecl],
     out: &mut Vec<u8>,
@@ -204,13 +248,13 @@ fn put_updates(
     ensures kept { Extends out.old.items out.new.items }
 {
     for (number, register) in registers.iter().enumerate() {
-        put_update(module, number, register, out)?;
+        put_always(module, number, register, out)?;
     }
     Ok(())
 }
 
 #[tactic(auto, using(crate::proofs::Growth::extends_twice), unfolding(crate::specs::Text::always_line))]
-fn put_update(
+fn put_always(
     module: &Module,
     number: usize,
     register: &RegDecl,
@@ -222,9 +266,23 @@ fn put_update(
 {
     put(b"  always @(posedge mbac_clk) ", out)?;
     put_register_name(number, out)?;
-    put(b" <= (mbac_rst ? ", out)?;
+    put(b" <= ", out)?;
+    put_update(module, register, out)?;
+    put(b";\n", out)
+}
+
+#[tactic(auto, using(crate::proofs::Growth::extends_twice), unfolding(crate::specs::Text::update_text))]
+fn put_update(
+    module: &Module,
+    register: &RegDecl,
+    out: &mut Vec<u8>,
+) -> Result<(), AllocError>
+    ensures text { OnOk result (out.new.items ≡ out.old.items ++ update_text (names_of (module_of module.now)) (register_of register.now)) }
+    ensures kept { Extends out.old.items out.new.items }
+{
+    put(b"(mbac_rst ? ", out)?;
     put_sized(register.width, register.init, out)?;
     put(b" : ", out)?;
     put_expression(module, &register.next, out)?;
-    put(b");\n", out)
+    put(b")", out)
 }

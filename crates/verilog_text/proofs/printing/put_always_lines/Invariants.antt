@@ -3,7 +3,7 @@ use Rattle.verilog_text.specs.Module.{names_of}
 use Rattle.verilog_text.specs.Growth.{Extends}
 use Rattle.verilog_text.specs.Text.{each_numbered, always_line}
 use Rattle.verilog_text.specs.View.{register_of, module_of}
-use Rattle.verilog_text.proofs.printing.put_updates.Given as goal
+use Rattle.verilog_text.proofs.printing.put_always_lines.Given as goal
 
 abbrev pub invariant-loop-number : goal.invariant-loop-number
 invariant-loop-number l =

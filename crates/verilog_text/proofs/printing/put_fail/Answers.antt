@@ -1,0 +1,11 @@
+use Rattle.std.proofs.Common.{[], ◌∷◌}
+use Rattle.std.specs.Prelude.{codes}
+use Rattle.verilog_text.specs.Text.{fail_line}
+use Rattle.verilog_text.proofs.Joins.{joins, joins_parts}
+use Rattle.verilog_text.proofs.printing.put_fail.Goals as goal
+
+pub returns-clause-text : goal.returns-clause-text
+unfolding fail_line
+returns-clause-text c =
+    let first = joins c.args.out.now.items _ _ _ _ c.in_ok-put.ensures.text c.in_ok-put_expression.ensures.text in
+    joins_parts _ c.args.out.now.items _ _ _ (codes ";") (10 ∷ []) first c.put-2.ensures.text
