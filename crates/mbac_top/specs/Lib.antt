@@ -1,3 +1,4 @@
 pub mod ThinForm
+pub mod Reading
 pub mod Answers
 pub mod Compile

@@ -2,3 +2,4 @@
 #![tactic(auto)]
 
 pub mod outcome;
+mod thin_form;
