@@ -17,3 +17,6 @@ pub use reading::{ReadError, read_all};
 pub use std_inputs::StdInputs;
 pub use std_sink::StdSink;
 pub use writing::write_all;
+
+#[cfg(test)]
+mod tests;
