@@ -6,7 +6,6 @@ use crate::{
 };
 use std::alloc::{AllocError, Global};
 use std::fs;
-use std::io::Cursor;
 use std::test::Fail;
 
 // One file of five bytes, and one of none.
@@ -94,8 +93,10 @@ fn reads_and_writes_outside(rt: HostRuntime) -> Result<(), Fail> {
     assert_eq!(rt; StdInputs::new(&rt, None, None).read(0, &mut [0; 4]), Ok(0));
     fs::remove_file(&rt, "words.txt")?;
 
-    let mut sink = StdSink::new(Cursor::new([0u8; 6]));
+    let mut room = [0; 6];
+    let mut sink = StdSink::new(room.as_mut_slice());
     assert_eq!(rt; write_all(&mut sink, b"words"), Ok(()));
     assert_eq!(rt; write_all(&mut sink, b"words"), Err(Failed));
+    assert_eq!(rt; &room, b"wordsw");
     Ok(())
 }

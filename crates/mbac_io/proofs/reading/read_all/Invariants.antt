@@ -1,4 +1,4 @@
-use Rattle.std.proofs.Common.{◌≡◌, ◌≢◌, ℕ, ◌≤◌, vec_len, ◌+◌, ◌-◌}
+use Rattle.std.proofs.Common.{◌≢◌, ℕ, ◌≤◌, vec_len, ◌-◌}
 use Rattle.mbac_io.specs.Device.{Keeps, Takes}
 use Rattle.mbac_io.proofs.reading.read_all.Given as goal
 
