@@ -77,29 +77,17 @@ mod tests {
     use super::*;
     use std::test::Fail;
 
-    // !a ? b[3:1] + 8'd200 : 7
+    // a[2] + 8'd200
     #[test]
     fn an_expression_comes_apart_as_it_was_built(rt: HostRuntime) -> Result<(), Fail> {
-        let alloc = rt.alloc();
-        let a = Subexpr::new(alloc, Expr::Whole(0))?;
-        let test = Subexpr::new(alloc, Expr::Unary(UnOp::Not, a))?;
-        let part = Subexpr::new(alloc, Expr::Part(1, 3, 1))?;
-        let number = Subexpr::new(alloc, Expr::Sized(8, 200))?;
-        let yes = Subexpr::new(alloc, Expr::Binary(BinOp::Add, part, number))?;
-        let no = Subexpr::new(alloc, Expr::Plain(7))?;
-        let whole = Subexpr::new(alloc, Expr::Choice(test, yes, no))?;
-        let Expr::Choice(test, yes, no) = whole.into_inner() else {
-            return Err("a choice".into());
-        };
-        assert!(rt;
-            matches!(test.get(), Expr::Unary(UnOp::Not, a) if matches!(a.get(), Expr::Whole(0)))
-        );
-        assert!(rt; matches!(no.get(), Expr::Plain(7)));
-        let Expr::Binary(BinOp::Add, left, right) = yes.get() else {
+        let bit = Subexpr::new(rt.alloc(), Expr::Bit(1, 2))?;
+        let number = Subexpr::new(rt.alloc(), Expr::Sized(8, 200))?;
+        let sum = Subexpr::new(rt.alloc(), Expr::Binary(BinOp::Add, bit, number))?;
+        let Expr::Binary(BinOp::Add, bit, number) = sum.into_inner() else {
             return Err("a sum".into());
         };
-        assert!(rt; matches!(left.get(), Expr::Part(1, 3, 1)));
-        assert!(rt; matches!(right.get(), Expr::Sized(8, 200)));
+        assert!(rt; matches!(bit.get(), Expr::Bit(1, 2)));
+        assert!(rt; matches!(number.get(), Expr::Sized(8, 200)));
         Ok(())
     }
 }

@@ -52,7 +52,7 @@ impl PartialEq for Name {
     ghost laws = { partial_equiv_from_equiv nat_list_eq_equiv };
 
     fn eq(&self, other: &Name) -> bool {
-        self.bytes.as_slice() == other.bytes.as_slice()
+        self.bytes() == other.bytes()
     }
 }
 
@@ -66,7 +66,7 @@ impl Hash for Name {
     ghost respects_eq = { Prim.search (hashing, rules) };
 
     fn hash<H: Hasher>(&self, state: &mut H) {
-        self.bytes.as_slice().hash(state);
+        self.bytes().hash(state);
     }
 }
 
