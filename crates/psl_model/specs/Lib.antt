@@ -10,3 +10,5 @@ pub mod ExprView
 pub mod SereView
 pub mod FormulaView
 pub mod View
+pub mod SameExpr
+pub mod SameExprLaws

@@ -1,6 +1,9 @@
 //! Expressions over the signals of a unit or a module.
 
 ghost use Rattle.std.specs.Prelude.{◌≡◌, IfOk};
+ghost use Rattle.std.specs.Cmp.{on_equiv, partial_equiv_from_equiv};
+ghost use Rattle.psl_model.specs.SameExprLaws.{same_expr_equiv};
+ghost use Rattle.psl_model.specs.SameExpr.{same_expr};
 ghost use Rattle.psl_model.specs.View.{expr_of};
 
 use crate::operators::{BinOp, UnOp};
@@ -25,6 +28,34 @@ pub enum Expr {
     Binary(BinOp, Subexpr, Subexpr),
     /// A test, the value where it isn't 0, and the value where it is.
     Choice(Subexpr, Subexpr, Subexpr),
+}
+
+impl PartialEq for Expr {
+    ghost eq = { λ a b. same_expr (expr_of a) (expr_of b) };
+
+    ghost laws = { partial_equiv_from_equiv (on_equiv expr_of same_expr_equiv) };
+
+    fn eq(&self, other: &Expr) -> bool {
+        match (self, other) {
+            (Expr::Whole(a), Expr::Whole(b)) => a == b,
+            (Expr::Bit(a, i), Expr::Bit(b, j)) => a == b && i == j,
+            (Expr::Part(a, i, m), Expr::Part(b, j, n)) => a == b && i == j && m == n,
+            (Expr::Plain(a), Expr::Plain(b)) => a == b,
+            (Expr::Sized(a, i), Expr::Sized(b, j)) => a == b && i == j,
+            (Expr::Unary(o, a), Expr::Unary(p, b)) => o == p && a.get().eq(b.get()),
+            (Expr::Binary(o, a, c), Expr::Binary(p, b, d)) => {
+                o == p && a.get().eq(b.get()) && c.get().eq(d.get())
+            }
+            (Expr::Choice(t, a, c), Expr::Choice(u, b, d)) => {
+                t.get().eq(u.get()) && a.get().eq(b.get()) && c.get().eq(d.get())
+            }
+            _ => false,
+        }
+    }
+}
+
+impl Eq for Expr {
+    ghost laws = { on_equiv expr_of same_expr_equiv };
 }
 
 /// An operand, on the heap.
