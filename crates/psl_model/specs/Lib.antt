@@ -12,3 +12,4 @@ pub mod FormulaView
 pub mod View
 pub mod SameExpr
 pub mod SameExprLaws
+pub mod FedExpr

@@ -1,5 +1,5 @@
 -- `==` of expressions holds exactly of equal trees, so it is an equivalence.
-use Rattle.std.proofs.Common.{◌≡◌, ℕ, Bool, true, false, ◌&&◌, refl, sym, ap, subst, ◌∙◌, rules, arith}
+use Rattle.std.proofs.Common.{◌≡◌, ℕ, Bool, true, false, ◌&&◌, ◌==◌, refl, sym, ap, subst, ◌∙◌, rules, arith}
 use Rattle.std.proofs.lemmas.Bool.{eqb-true, eq-eqb}
 use Rattle.std.specs.Bool.{Decides, one_answer}
 use Rattle.std.specs.Cmp.{IsEquivalence}
@@ -34,26 +34,26 @@ bin_op-is o o' p = same_true bin_op.the_type (search rules) o o' p
 pub same_expr-is : (x y : Expr) → same_expr x y ≡ true → x ≡ y
 same_expr-is (whole s) (whole s') p = ap whole (eqb-true s s' p)
 same_expr-is (bit s n) (bit s' n') p =
-    let h = both _ _ p in
+    let h = both (s == s') (n == n') p in
     λ i. bit (eqb-true s s' h.0 i) (eqb-true n n' h.1 i)
 same_expr-is (part s h l) (part s' h' l') p =
-    let q = both _ _ p in
-    let r = both _ _ q.0 in
+    let q = both (s == s' && h == h') (l == l') p in
+    let r = both (s == s') (h == h') q.0 in
     λ i. part (eqb-true s s' r.0 i) (eqb-true h h' r.1 i) (eqb-true l l' q.1 i)
 same_expr-is (plain n) (plain n') p = ap plain (eqb-true n n' p)
 same_expr-is (sized w v) (sized w' v') p =
-    let h = both _ _ p in
+    let h = both (w == w') (v == v') p in
     λ i. sized (eqb-true w w' h.0 i) (eqb-true v v' h.1 i)
 same_expr-is (unary o a) (unary o' a') p =
-    let h = both _ _ p in
+    let h = both (un_op_eq.ghosts.eq o o') (same_expr a a') p in
     λ i. unary (un_op-is o o' h.0 i) (same_expr-is a a' h.1 i)
 same_expr-is (binary o a b) (binary o' a' b') p =
-    let q = both _ _ p in
-    let r = both _ _ q.0 in
+    let q = both (bin_op_eq.ghosts.eq o o' && same_expr a a') (same_expr b b') p in
+    let r = both (bin_op_eq.ghosts.eq o o') (same_expr a a') q.0 in
     λ i. binary (bin_op-is o o' r.0 i) (same_expr-is a a' r.1 i) (same_expr-is b b' q.1 i)
 same_expr-is (choice t y n) (choice t' y' n') p =
-    let q = both _ _ p in
-    let r = both _ _ q.0 in
+    let q = both (same_expr t t' && same_expr y y') (same_expr n n') p in
+    let r = both (same_expr t t') (same_expr y y') q.0 in
     λ i. choice (same_expr-is t t' r.0 i) (same_expr-is y y' r.1 i) (same_expr-is n n' q.1 i)
 same_expr-is _ _ p = absurd (true≢false (sym p))
 
