@@ -1,5 +1,5 @@
 -- `==` of expressions.
-use Rattle.std.specs.Prelude.{Bool, true, false, ◌&&◌, ◌==◌}
+use Rattle.std.specs.Prelude.{Bool, false, ◌&&◌, ◌==◌}
 use Rattle.psl_model.specs.contracts.operators.UnOpPartialEq.TheImpl as un_op_eq
 use Rattle.psl_model.specs.contracts.operators.BinOpPartialEq.TheImpl as bin_op_eq
 use Rattle.psl_model.specs.Expr.{Expr, whole, bit, part, plain, sized, unary, binary, choice}
