@@ -1,6 +1,6 @@
 -- What the runs of the negation checker are: its output is the negation of its port, cycle by cycle.
 use Rattle.std.proofs.Common.{◌≡◌, ℕ, zero, suc, ◌+◌, ◌%◌, ◌^◌, ◌<◌, ◌≤◌, ◌↔◌, ◌++◌, Bool, true, false, cond, List, [], ◌∷◌, map, length, take, refl, ap, sym, ◌∙◌, arith, subst, Some, get_or}
-use Rattle.std.specs.Prelude.{◌==◌, slice_get, slice_index, Any, Contains, Option}
+use Rattle.std.specs.Prelude.{◌==◌, slice_get, slice_index, Any, Contains}
 use Rattle.std.proofs.lemmas.Bool.Decides.{nat_tests}
 use Rattle.std.specs.List.{AllByRecursion}
 use Rattle.psl_model.specs.declared.names.Signal.{Signal}
