@@ -2,3 +2,4 @@ pub mod ThinForm
 pub mod Reading
 pub mod Answers
 pub mod Compile
+pub mod Explained
