@@ -3,3 +3,4 @@ pub mod Reading
 pub mod Answers
 pub mod Compile
 pub mod Explained
+pub mod ThinChecker
