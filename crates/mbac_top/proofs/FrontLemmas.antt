@@ -125,6 +125,7 @@ name_and_rest-only (b ∷ bs) name rest e = by_tests (between 97 122 b) (nat_le 
       let name_is : b ∷ take (prefix_len is_digit bs) bs ≡ name = parts.0 in
       let rest_is : drop (prefix_len is_digit bs) bs ≡ rest = parts.1 in
       let few : prefix_len is_digit bs ≤ 254 = grind (arith, nat_tests) in
-      let count : length (take (prefix_len is_digit bs) bs) ≤ 254 = omega (arith, length-prefix_len is_digit bs) in
-      (subst IsThinName name_is (letter, list_all-prefix is_digit bs, count),
-       ap (λ r. b ∷ r) (sym (take-append-drop (prefix_len is_digit bs) bs)) ∙ ap (λ f. f ++ drop (prefix_len is_digit bs) bs) name_is ∙ ap (λ r. name ++ r) rest_is)
+      let count : length (take (prefix_len is_digit bs) bs) ≤ 254 = omega (arith, length-prefix_len is_digit bs) in (
+        subst IsThinName name_is (letter, list_all-prefix is_digit bs, count),
+        ap (λ r. b ∷ r) (sym (take-append-drop (prefix_len is_digit bs) bs)) ∙ ap (λ f. f ++ drop (prefix_len is_digit bs) bs) name_is ∙ ap (λ r. name ++ r) rest_is,
+      )

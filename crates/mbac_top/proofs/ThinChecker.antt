@@ -32,15 +32,15 @@ thin_module name signal = negation_checker (thin_module_name name) (thin_port si
 
 lawful : (name signal : List ℕ) → IsThinName name → IsThinName signal → IsLawful (thin_module name signal)
 lawful name signal thin_name thin_signal = record {
-    identifier = module_identifier name thin_name;
-    prefix = module_prefix name;
-    report = tt;
-    ports = one IsPort (thin_port signal) (record { name = usable signal thin_signal; width = (omega arith, omega arith) });
-    distinct = one_alone (λ p q. p ≢ q) signal;
-    registers = none _;
-    wires = λ place. tt;
-    fail = record { valid = omega arith; narrow = omega arith; shallow = omega arith };
-  }
+  identifier = module_identifier name thin_name;
+  prefix = module_prefix name;
+  report = tt;
+  ports = one IsPort (thin_port signal) (record { name = usable signal thin_signal; width = (omega arith, omega arith) });
+  distinct = one_alone (λ p q. p ≢ q) signal;
+  registers = none _;
+  wires = λ place. tt;
+  fail = record { valid = omega arith; narrow = omega arith; shallow = omega arith };
+}
 
 -- the checker of the first assertion has its number at its end
 named : (name : List ℕ) → thin_module_name name ≡ codes "mbac_" ++ name ++ codes "_" ++ decimal 1
@@ -50,14 +50,15 @@ named name =
 
 pub checks_unit : ((name : List ℕ) (port : Signal) → Checks (port.width ∷ []) (0 ∷ []) (negation_checker name port) (always (bool (whole 0)))) →
     (name signal text : List ℕ) → IsThinName name → IsThinName signal → text ≡ spelling (thin_module name signal) → ChecksUnit (thin_unit name signal) text
-checks_unit law name signal text thin_name thin_signal spelled =
-    (thin_module name signal ∷ [],
-     record {
-       spelled = spelled ∙ sym (append-nil (spelling (thin_module name signal)));
-       lawful = one IsLawful (thin_module name signal) (lawful name signal thin_name thin_signal);
-       distinct = one_alone (λ m n. m ≢ n) (thin_module_name name);
-     },
-     (record { name = named name; report = refl; ports = refl; checks = law (thin_module_name name) (thin_port signal) }, tt))
+checks_unit law name signal text thin_name thin_signal spelled = (
+  thin_module name signal ∷ [],
+  record {
+    spelled = spelled ∙ sym (append-nil (spelling (thin_module name signal)));
+    lawful = one IsLawful (thin_module name signal) (lawful name signal thin_name thin_signal);
+    distinct = one_alone (λ m n. m ≢ n) (thin_module_name name);
+  },
+  (record { name = named name; report = refl; ports = refl; checks = law (thin_module_name name) (thin_port signal) }, tt),
+)
 
 -- what is printed into an empty text
 pub printed : (before after : List ℕ) (m n : Module) → before ≡ [] → m ≡ n → after ≡ before ++ spelling m → after ≡ spelling n

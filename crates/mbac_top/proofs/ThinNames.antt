@@ -83,13 +83,13 @@ short (byte ∷ bytes) thin = omega (arith, thin.2)
 
 pub usable : (name : List ℕ) → IsThinName name → IsUsableName name
 usable name thin = record {
-    identifier = identifier name thin;
-    short = short name thin;
-    no_prefix = no_prefix name thin;
-    no_word = not_thin_words language_words no_language_word name thin;
-    no_left_out_word = not_thin_words left_out_words no_left_out_word name thin;
-    no_verilog_word = not_thin_words verilog_words no_verilog_word name thin;
-  }
+  identifier = identifier name thin;
+  short = short name thin;
+  no_prefix = no_prefix name thin;
+  no_word = not_thin_words language_words no_language_word name thin;
+  no_left_out_word = not_thin_words left_out_words no_left_out_word name thin;
+  no_verilog_word = not_thin_words verilog_words no_verilog_word name thin;
+}
 
 name_continues : (name : List ℕ) → IsThinName name → list_all continues_name name ≡ true
 name_continues [] thin = absurd thin

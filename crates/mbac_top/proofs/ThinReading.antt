@@ -113,14 +113,26 @@ unit_spells bytes name rest tokens e =
     let name_at = name_and_rest-only gap.0 named.0.0 named.0.1 named.1 in
     let brace_at = spelled_text named.0.1 (codes "{") brace.0 brace.1 in
     let opened_is : opened.0 ≡ gap_at.0 ++ named.0.0 ++ named.0.1 =
-        gap_at.3 ∙ ap (λ r. gap_at.0 ++ r) name_at.1 ∙ sym (append_assoc gap_at.0 named.0.0 named.0.1) in
-    (subst IsThinName parts.0 name_at.0,
-     λ more.
-       let tail = subst (SpellsAfter (mark (codes "{")) tokens) (sym parts.1) more in
-       let named_is = subst (λ n. opened.0 ≡ gap_at.0 ++ n ++ named.0.1) parts.0 opened_is in
-       (word_at.0, opened.0, word_at.1, tt, word_at.2,
-        (gap_at.0, named.0.1, gap_at.1, gap_at.2, named_is,
-         (brace_at.0, brace.0, brace_at.1, tt, brace_at.2, tail))))
+    gap_at.3 ∙ ap (λ r. gap_at.0 ++ r) name_at.1 ∙ sym (append_assoc gap_at.0 named.0.0 named.0.1) in (
+      subst IsThinName parts.0 name_at.0,
+      λ more.
+          let tail = subst (SpellsAfter (mark (codes "{")) tokens) (sym parts.1) more in
+          let named_is = subst (λ n. opened.0 ≡ gap_at.0 ++ n ++ named.0.1) parts.0 opened_is in (
+            word_at.0,
+            opened.0,
+            word_at.1,
+            tt,
+            word_at.2,
+            (
+              gap_at.0,
+              named.0.1,
+              gap_at.1,
+              gap_at.2,
+              named_is,
+              (brace_at.0, brace.0, brace_at.1, tt, brace_at.2, tail),
+            ),
+          ),
+    )
 
 assertion_spells : (bytes first signal rest : List ℕ) (tokens : List Token) → assertion_part bytes ≡ Some (signal, rest) →
     IsThinName signal × (SpellsAfter (word signal) tokens rest → SpellsAfter (mark first) (assertion_tokens signal tokens) bytes)
@@ -136,14 +148,26 @@ assertion_spells bytes first signal rest tokens e =
     let next_at = after_gap-only always.0 next.0 next.1 in
     let name_at = name_and_rest-only next.0 signal rest next.2 in
     let asserted_is : asserted.0 ≡ gap_at.0 ++ codes "always" ++ always.0 =
-        gap_at.3 ∙ ap (λ r. gap_at.0 ++ r) always_at ∙ sym (append_assoc gap_at.0 (codes "always") always.0) in
+    gap_at.3 ∙ ap (λ r. gap_at.0 ++ r) always_at ∙ sym (append_assoc gap_at.0 (codes "always") always.0) in
     let always_is : always.0 ≡ next_at.0 ++ signal ++ rest =
-        next_at.3 ∙ ap (λ r. next_at.0 ++ r) name_at.1 ∙ sym (append_assoc next_at.0 signal rest) in
-    (name_at.0,
-     λ more.
-       (word_at.0, asserted.0, word_at.1, tt, word_at.2,
-        (gap_at.0, always.0, gap_at.1, gap_at.2, asserted_is,
-         (next_at.0, rest, next_at.1, next_at.2, always_is, more))))
+    next_at.3 ∙ ap (λ r. next_at.0 ++ r) name_at.1 ∙ sym (append_assoc next_at.0 signal rest) in (
+      name_at.0,
+      λ more. (
+        word_at.0,
+        asserted.0,
+        word_at.1,
+        tt,
+        word_at.2,
+        (
+          gap_at.0,
+          always.0,
+          gap_at.1,
+          gap_at.2,
+          asserted_is,
+          (next_at.0, rest, next_at.1, next_at.2, always_is, more),
+        ),
+      ),
+    )
 
 only_blanks : (bytes x : List ℕ) → cond (length (after_blanks bytes) == 0) (Some []) None ≡ Some x → AreBlanks bytes
 only_blanks bytes x e = by_test (length (after_blanks bytes) == 0) refl where
@@ -161,9 +185,14 @@ end_spells bytes last x e =
     let ended = bind_some _ _ _ e in
     let closed = bind_some _ _ _ ended.2 in
     let ended_at = spelled_text bytes (codes ";") ended.0 ended.1 in
-    let closed_at = spelled_text ended.0 (codes "}") closed.0 closed.1 in
-    (ended_at.0, ended.0, ended_at.1, tt, ended_at.2,
-     (closed_at.0, closed.0, closed_at.1, tt, closed_at.2, only_blanks closed.0 x closed.2))
+    let closed_at = spelled_text ended.0 (codes "}") closed.0 closed.1 in (
+      ended_at.0,
+      ended.0,
+      ended_at.1,
+      tt,
+      ended_at.2,
+      (closed_at.0, closed.0, closed_at.1, tt, closed_at.2, only_blanks closed.0 x closed.2),
+    )
 
 -- a text that is read is of the thin form
 
@@ -178,5 +207,5 @@ spells bytes name signal e =
     let assertion_at = assertion_spells unit.0.1 (codes "{") assertion.0.0 assertion.0.1 end_tokens assertion.1 in
     let end_at = end_spells assertion.0.1 assertion.0.0 end.0 end.1 in
     let form : IsThinForm bytes unit.0.0 assertion.0.0 =
-        record { unit_name = unit_at.0; signal_name = assertion_at.0; spelled = unit_at.1 (assertion_at.1 end_at) } in
+    record { unit_name = unit_at.0; signal_name = assertion_at.0; spelled = unit_at.1 (assertion_at.1 end_at) } in
     subst (λ n. IsThinForm bytes n signal) names.0 (subst (λ n. IsThinForm bytes unit.0.0 n) names.1 form)

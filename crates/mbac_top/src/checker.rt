@@ -18,11 +18,7 @@ use verilog_text::{Module, print};
 const FIRST_PORT: usize = 2;
 
 /// The text that checks the unit of this name, whose one assertion is that the signal is always 1.
-pub(crate) fn checker_text(
-    alloc: Global,
-    name: &[u8],
-    signal: &[u8],
-) -> Result<Vec<u8>, AllocError>
+pub(crate) fn checker_text(alloc: Global, name: &[u8], signal: &[u8]) -> Result<Vec<u8>, AllocError>
     requires thin_name { IsThinName name.now }
     requires thin_signal { IsThinName signal.now }
     ensures { IfOk result (λ text. ChecksUnit (thin_unit name.now signal.now) text.items) }

@@ -6,6 +6,8 @@ mod compiling;
 mod message;
 mod outcome;
 mod running;
+#[cfg(test)]
+mod tests;
 mod thin_form;
 mod words;
 

@@ -11,8 +11,7 @@ use mbac_io::{Sink, write_all};
 
 /// Tells the cause. It takes no memory, so that want of memory can be told too.
 pub(crate) fn tell<N: Sink>(notes: &mut N, cause: Cause)
-    ensures {
-        Appends (N.taken notes.old) (N.taken notes.new) (message_of cause)
+    ensures { Appends (N.taken notes.old) (N.taken notes.new) (message_of cause)
         ⊎ (AppendsPart (N.taken notes.old) (N.taken notes.new) (message_of cause) × Rose (N.faults notes.old) (N.faults notes.new)) }
 {
     let line = message(cause);

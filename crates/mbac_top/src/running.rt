@@ -40,26 +40,26 @@ pub fn run<I: Inputs, O: Sink, N: Sink>(
         (slot ≡ 0) × WhereTold (I.left inputs.old 0) (I.left inputs.new 0) IsTooLong }
     ensures too_long_where { IsCompile (map string_bytes words.now) →
         WhereTold (I.left inputs.old 0) (I.left inputs.new 0) (λ bytes. IsTooLong bytes →
-            (result.cause ≡ Cause.InputTooLong 0) ⊎ (result.cause ≡ Cause.ReadFault 0) ⊎ (result.cause ≡ Cause.OutOfMemory)) }
+        (result.cause ≡ Cause.InputTooLong 0) ⊎ (result.cause ≡ Cause.ReadFault 0) ⊎ (result.cause ≡ Cause.OutOfMemory)) }
     ensures unbuilt_only { result.cause ≡ Cause.Unbuilt →
         WhereTold (I.left inputs.old 0) (I.left inputs.new 0) IsUnbuilt }
     ensures unbuilt_where { IsCompile (map string_bytes words.now) →
         WhereTold (I.left inputs.old 0) (I.left inputs.new 0) (λ bytes. IsUnbuilt bytes →
-            (result.cause ≡ Cause.Unbuilt) ⊎ (result.cause ≡ Cause.ReadFault 0) ⊎ (result.cause ≡ Cause.OutOfMemory)) }
+        (result.cause ≡ Cause.Unbuilt) ⊎ (result.cause ≡ Cause.ReadFault 0) ⊎ (result.cause ≡ Cause.OutOfMemory)) }
 
     // A unit is compiled, unless memory or a device fails.
     ensures complete { IsCompile (map string_bytes words.now) →
         WhereTold (I.left inputs.old 0) (I.left inputs.new 0) (λ bytes. IsBuilt bytes →
-            (result.cause ≡ Cause.Done) ⊎ (result.cause ≡ Cause.OutOfMemory)
-            ⊎ (result.cause ≡ Cause.ReadFault 0) ⊎ (result.cause ≡ Cause.WriteFault)) }
+        (result.cause ≡ Cause.Done) ⊎ (result.cause ≡ Cause.OutOfMemory)
+        ⊎ (result.cause ≡ Cause.ReadFault 0) ⊎ (result.cause ≡ Cause.WriteFault)) }
 
     // What is written: one checker for each assertion of the unit, or a part of that text, or nothing.
     ensures compiled { result.cause ≡ Cause.Done →
         WhereTold (I.left inputs.old 0) (I.left inputs.new 0) (λ bytes. (text : List ℕ) ×
-            IsCompiledTo bytes text × Appends (O.taken out.old) (O.taken out.new) text) }
+        IsCompiledTo bytes text × Appends (O.taken out.old) (O.taken out.new) text) }
     ensures part { result.cause ≡ Cause.WriteFault →
         WhereTold (I.left inputs.old 0) (I.left inputs.new 0) (λ bytes. (text : List ℕ) ×
-            IsCompiledTo bytes text × AppendsPart (O.taken out.old) (O.taken out.new) text) }
+        IsCompiledTo bytes text × AppendsPart (O.taken out.old) (O.taken out.new) text) }
     ensures nothing { result.cause ≢ Cause.Done → result.cause ≢ Cause.WriteFault → Keeps (O.taken out.old) (O.taken out.new) }
 
     // What people are told.
@@ -79,12 +79,7 @@ pub fn run<I: Inputs, O: Sink, N: Sink>(
 }
 
 /// The answer of the words, with its text written.
-fn answer<I: Inputs, O: Sink>(
-    alloc: Global,
-    words: &[String],
-    inputs: &mut I,
-    out: &mut O,
-) -> Cause
+fn answer<I: Inputs, O: Sink>(alloc: Global, words: &[String], inputs: &mut I, out: &mut O) -> Cause
     ensures { IsExplained (IsCompile (map string_bytes words.now))
         (record { before = I.left inputs.old 0; after = I.left inputs.new 0; faults_before = I.faults inputs.old 0; faults_after = I.faults inputs.new 0 })
         (record { before = O.taken out.old; after = O.taken out.new; faults_before = O.faults out.old; faults_after = O.faults out.new })
@@ -114,7 +109,7 @@ fn compile_slot<I: Inputs>(alloc: Global, inputs: &mut I) -> Result<Vec<u8>, Cau
 }
 
 fn write_text<O: Sink>(out: &mut O, text: &[u8]) -> Cause
-    ensures { WritesText 
+    ensures { WritesText
         (record { before = O.taken out.old; after = O.taken out.new; faults_before = O.faults out.old; faults_after = O.faults out.new })
         text.now result }
 {
