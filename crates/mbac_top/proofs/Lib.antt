@@ -1,2 +1,5 @@
 mod FrontLemmas
 mod ThinReading
+mod Explaining
+mod ThinNames
+mod ThinChecker
