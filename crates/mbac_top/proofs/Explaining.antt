@@ -71,7 +71,7 @@ EndsUnbuilt cause = (cause ≡ Unbuilt) ⊎ (cause ≡ ReadFault 0) ⊎ (cause �
 
 unbuilt-written : (Wrote : Option (List ℕ) → Option (List ℕ) → List ℕ → Type 0) (output : Change) (cause : Cause) (bytes : List ℕ) →
     IsShortAnd (WritesAnswer Wrote output) bytes → IsUnbuilt bytes → EndsUnbuilt cause
-unbuilt-written Wrote output cause bytes had unbuilt = let text = had.1 in absurd (unbuilt.1 text.1.0 text.1.1)
+unbuilt-written Wrote output cause bytes had unbuilt = let text = had.1 in absurd (unbuilt.1 text.1.is_unit.0 text.1.is_unit.1)
 
 unbuilt-too_long : (cause : Cause) (bytes : List ℕ) → IsTooLong bytes → IsUnbuilt bytes → EndsUnbuilt cause
 unbuilt-too_long cause bytes long unbuilt = absurd (omega (arith, long, unbuilt.0))

@@ -3,3 +3,4 @@ mod ThinReading
 mod Explaining
 mod ThinNames
 mod ThinChecker
+mod Compiled
