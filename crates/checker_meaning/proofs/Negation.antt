@@ -1,6 +1,6 @@
 -- What the runs of the negation checker are: its output is the negation of its port, cycle by cycle.
 use Rattle.std.proofs.Common.{◌≡◌, ℕ, zero, suc, ◌+◌, ◌%◌, ◌^◌, ◌<◌, ◌≤◌, ◌↔◌, ◌++◌, Bool, true, false, cond, List, [], ◌∷◌, map, length, take, refl, ap, sym, ◌∙◌, arith, subst, Some, get_or}
-use Rattle.std.specs.Prelude.{◌==◌, slice_get, slice_index, Any, Contains, Option}
+use Rattle.std.specs.Prelude.{◌==◌, slice_get, slice_index, Any, Contains}
 use Rattle.std.proofs.lemmas.Bool.Decides.{nat_tests}
 use Rattle.std.specs.List.{AllByRecursion}
 use Rattle.psl_model.specs.declared.names.Signal.{Signal}
@@ -109,14 +109,16 @@ Neutrally = (widths : List ℕ) (e : Expr) (trace : List Valuation) → Violates
 
 pub checks : Weakly → Neutrally → (name : List ℕ) (port : Signal) → Checks (port.width ∷ []) (0 ∷ []) (negation_checker name port) (always (bool (whole 0)))
 checks weakly neutrally name port = record {
-    rises = λ trace reset cycles is run n lt.
-        let stream = run_gives name port trace (never_ends trace) reset cycles run in
-        let law = weakly (port.width ∷ []) (whole 0) (take (suc n) trace) in
-        (λ rises. let rises' = subst (λ s. RisesBy s n) stream rises in law.1 (any_of_rise trace n rises'.0 rises'.1 rises'.2),
-         λ violates. subst (λ s. RisesBy s n) (sym stream) (rise_of_any trace n (law.0 violates)));
-    ends = λ trace reset cycles is run.
-        let stream = run_gives name port trace (ends_last trace) reset cycles run in
-        let law = neutrally (port.width ∷ []) (whole 0) trace in
-        (λ one. law.1 (any_of_one trace (subst (λ s. Contains s 1) stream one)),
-         λ violates. subst (λ s. Contains s 1) (sym stream) (one_of_any trace (law.0 violates)));
-  }
+  rises = λ trace reset cycles is run n lt.
+      let stream = run_gives name port trace (never_ends trace) reset cycles run in
+      let law = weakly (port.width ∷ []) (whole 0) (take (suc n) trace) in (
+        λ rises. let rises' = subst (λ s. RisesBy s n) stream rises in law.1 (any_of_rise trace n rises'.0 rises'.1 rises'.2),
+        λ violates. subst (λ s. RisesBy s n) (sym stream) (rise_of_any trace n (law.0 violates)),
+      );
+  ends = λ trace reset cycles is run.
+      let stream = run_gives name port trace (ends_last trace) reset cycles run in
+      let law = neutrally (port.width ∷ []) (whole 0) trace in (
+        λ one. law.1 (any_of_one trace (subst (λ s. Contains s 1) stream one)),
+        λ violates. subst (λ s. Contains s 1) (sym stream) (one_of_any trace (law.0 violates)),
+      );
+}

@@ -48,6 +48,7 @@ AreCheckersOf unit from _ _ = ⊥
 abbrev pub ChecksUnit : PslUnit → (text : List ℕ) → Type 0
 ChecksUnit unit text = (modules : List Module) × StandsForModules text modules × AreCheckersOf unit 1 unit.directives modules
 
--- The headline: the bytes stand for a unit, by this relation, and the text checks the unit.
-abbrev pub IsCompiled : (stands_for : List ℕ → PslUnit → Type 0) → (bytes text : List ℕ) → Type 0
-IsCompiled stands_for bytes text = (unit : PslUnit) × stands_for bytes unit × ChecksUnit unit text
+-- The headline: the bytes stand for a unit, by this relation, and the text checks each unit for which they stand.
+pub record IsCompiled (stands_for : List ℕ → PslUnit → Type 0) (bytes text : List ℕ) : Type 0 where
+  pub is_unit : (unit : PslUnit) × stands_for bytes unit
+  pub checks : (unit : PslUnit) → stands_for bytes unit → ChecksUnit unit text

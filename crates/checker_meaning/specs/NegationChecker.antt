@@ -8,10 +8,10 @@ use Rattle.verilog_text.specs.Module.{Module}
 -- its port is at place 2 of its names, behind `mbac_rst` and `mbac_eot`
 abbrev pub negation_checker : (name : List ℕ) → (port : Signal) → Module
 negation_checker name port = record {
-    name = name;
-    report = None;
-    ports = port ∷ [];
-    registers = [];
-    wires = [];
-    fail = unary Not (whole 2);
-  }
+  name = name;
+  report = None;
+  ports = port ∷ [];
+  registers = [];
+  wires = [];
+  fail = unary Not (whole 2);
+}

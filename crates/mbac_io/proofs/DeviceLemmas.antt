@@ -1,5 +1,5 @@
 -- One call after another: what they do together to the bytes and to the count of faults.
-use Rattle.std.proofs.Common.{◌≡◌, ℕ, ◌≤◌, List, [], ◌++◌, Option, None, Some, refl, sym, ◌∙◌, ap, subst, inl, inr, arith, append_assoc, append-nil, take, drop, ◌+◌, ◌-◌, length, length-drop}
+use Rattle.std.proofs.Common.{ℕ, ◌≤◌, List, [], ◌++◌, Option, None, Some, refl, sym, ◌∙◌, ap, subst, inl, inr, arith, append_assoc, append-nil, take, drop, ◌+◌, ◌-◌, length, length-drop}
 use Rattle.std.proofs.lemmas.List.{take_all}
 use Rattle.std.proofs.Math.Seq.{take-add}
 use Rattle.mbac_io.specs.Device.{Rose, Keeps, Takes, Appends}

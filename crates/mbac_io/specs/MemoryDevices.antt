@@ -1,5 +1,5 @@
 -- What the inputs and the sink in memory are made of.
-use Rattle.std.specs.Prelude.{◌≡◌, ℕ, List, [], map, unwrap_or, slice_get, Vec}
+use Rattle.std.specs.Prelude.{ℕ, List, [], map, unwrap_or, slice_get, Vec}
 use Rattle.std.specs.declared.alloc.Global.{Global}
 use Rattle.mbac_io.specs.declared.slot_faults.SlotFaults.{SlotFaults}
 

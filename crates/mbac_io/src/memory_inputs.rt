@@ -1,5 +1,5 @@
-ghost use Rattle.std.specs.Prelude.{◌≡◌, ◌≢◌, ℕ, ◌<◌, ◌≤◌, ◌↔◌, ◌++◌, length, take, drop, min, IfOk, OnOk, OnErr, IsErr, Contains};
-ghost use Rattle.mbac_io.specs.Device.{Rose, Keeps, Takes, IsAtEnd};
+ghost use Rattle.std.specs.Prelude.{◌≡◌, ◌≢◌, ℕ, ◌<◌, ◌≤◌, ◌↔◌, ◌++◌, [], length, take, drop, min, IfOk, OnOk, OnErr, IsErr, Contains};
+ghost use Rattle.mbac_io.specs.Device.{Rose};
 ghost use Rattle.mbac_io.specs.Faults.{faults_of, next_count};
 ghost use Rattle.mbac_io.specs.MemoryDevices.{contents, file_at, left_of};
 
@@ -70,11 +70,11 @@ impl Inputs for MemoryInputs {
 
         // What all inputs promise.
         ensures within { IfOk result (λ count. count ≤ length buffer.new) }
-        ensures taken { IfOk result (λ count. Takes (Some (left_of self.old slot)) (Some (left_of self.new slot)) (take count buffer.new)) }
-        ensures end { result ≡ Ok 0 → IsAtEnd (Some (left_of self.new slot)) }
-        ensures failed_takes_nothing { OnErr result (Keeps (Some (left_of self.old slot)) (Some (left_of self.new slot))) }
+        ensures taken { IfOk result (λ count. left_of self.old slot ≡ take count buffer.new ++ left_of self.new slot) }
+        ensures end { result ≡ Ok 0 → left_of self.new slot ≡ [] }
+        ensures failed_takes_nothing { OnErr result (left_of self.new slot ≡ left_of self.old slot) }
         ensures failed_rose { OnErr result (Rose (faults_of self.old.faults slot) (faults_of self.new.faults slot)) }
-        ensures others_kept { (other : ℕ) → other ≢ slot → Keeps (Some (left_of self.old other)) (Some (left_of self.new other)) }
+        ensures others_kept { (other : ℕ) → other ≢ slot → left_of self.new other ≡ left_of self.old other }
         ensures never_falls { (any : ℕ) → faults_of self.old.faults any ≤ faults_of self.new.faults any }
 
         // What these inputs promise besides.

@@ -1,5 +1,5 @@
-ghost use Rattle.std.specs.Prelude.{◌≡◌, ◌≢◌, ℕ, ◌-◌, ◌<◌, ◌≤◌, ◌↔◌, ◌⊎◌, [], length, take, min, IfOk, OnOk, OnErr, IsErr, IsOk, Contains};
-ghost use Rattle.mbac_io.specs.Device.{Rose, Keeps, Appends};
+ghost use Rattle.std.specs.Prelude.{◌≡◌, ◌≢◌, ℕ, ◌-◌, ◌<◌, ◌≤◌, ◌↔◌, ◌⊎◌, ◌++◌, [], length, take, min, IfOk, OnOk, OnErr, IsErr, IsOk, Contains};
+ghost use Rattle.mbac_io.specs.Device.{Rose};
 ghost use Rattle.mbac_io.specs.Faults.{next_count};
 
 use crate::device::{Failed, Sink};
@@ -86,8 +86,8 @@ impl Sink for MemorySink {
         // What all sinks promise.
         ensures at_least_one { IfOk result (λ count. 0 < count) }
         ensures within { IfOk result (λ count. count ≤ length bytes.now) }
-        ensures appended { IfOk result (λ count. Appends (Some self.old.taken) (Some self.new.taken) (take count bytes.now)) }
-        ensures failed_takes_nothing { OnErr result (Keeps (Some self.old.taken) (Some self.new.taken)) }
+        ensures appended { IfOk result (λ count. self.new.taken ≡ self.old.taken ++ take count bytes.now) }
+        ensures failed_takes_nothing { OnErr result (self.new.taken ≡ self.old.taken) }
         ensures failed_rose { OnErr result (Rose self.old.faults self.new.faults) }
         ensures never_falls { self.old.faults ≤ self.new.faults }
 

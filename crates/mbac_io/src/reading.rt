@@ -1,8 +1,8 @@
 ghost use Rattle.std.specs.Prelude.{◌≡◌, ◌≢◌, ℕ, ◌<◌, ◌≤◌, ◌⊎◌, length, vec_len, IfOk};
 ghost use Rattle.mbac_io.specs.Device.{Rose, WhereTold, Keeps, TakesSome, TakesAll};
 
-use crate::device::Inputs;
-use std::alloc::Global;
+use crate::device::{Failed, Inputs};
+use std::alloc::{AllocError, Global};
 
 /// Why a slot could not be read whole.
 #[derive(Clone, Copy, Debug, PartialEq, Eq)]
@@ -15,6 +15,27 @@ pub enum ReadError {
     OutOfMemory,
 }
 
+impl From<Failed> for ReadError {
+    ghost use Rattle.mbac_io.specs.declared.reading.ReadError.{ReadError};
+
+    ghost from_gives = { λ _ error. error ≡ ReadError.Failed };
+
+    fn from(_failed: Failed) -> ReadError {
+        ReadError::Failed
+    }
+}
+
+impl From<AllocError> for ReadError {
+    ghost use Rattle.mbac_io.specs.declared.reading.ReadError.{ReadError};
+
+    ghost from_gives = { λ _ error. error ≡ ReadError.OutOfMemory };
+
+    fn from(_failed: AllocError) -> ReadError {
+        ReadError::OutOfMemory
+    }
+}
+
+// How many bytes are asked for in one read.
 const PIECE: usize = 4096;
 
 /// Reads what the slot has left, at most `limit` bytes.
@@ -44,17 +65,13 @@ pub fn read_all<I: Inputs>(
     let mut bytes = Vec::new(alloc);
     let mut piece = [0; PIECE];
     loop {
-        let Ok(count) = inputs.read(slot, &mut piece) else {
-            return Err(ReadError::Failed);
-        };
+        let count = inputs.read(slot, &mut piece)?;
         if count == 0 {
             return Ok(bytes);
         }
         if limit - bytes.len() < count {
             return Err(ReadError::TooLong);
         }
-        if bytes.extend_from_slice(&piece[..count]).is_err() {
-            return Err(ReadError::OutOfMemory);
-        }
+        bytes.extend_from_slice(&piece[..count])?;
     }
 }

@@ -1,3 +1,6 @@
 pub mod ThinForm
+pub mod Reading
 pub mod Answers
 pub mod Compile
+pub mod Explained
+pub mod ThinChecker

@@ -60,10 +60,10 @@ pub record IsThinForm (bytes name signal : List ℕ) : Type 0 where
 -- a unit with one signal of one bit, and the assertion that it is always 1
 abbrev pub thin_unit : (name signal : List ℕ) → PslUnit
 thin_unit name signal = record {
-    name = name;
-    signals = record { name = signal; width = 1 } ∷ [];
-    directives = record { label = None; report = None; formula = always (bool (whole 0)) } ∷ [];
-  }
+  name = name;
+  signals = record { name = signal; width = 1 } ∷ [];
+  directives = record { label = None; report = None; formula = always (bool (whole 0)) } ∷ [];
+}
 
 abbrev pub StandsForUnit : List ℕ → PslUnit → Type 0
 StandsForUnit bytes unit = (name signal : List ℕ) × IsThinForm bytes name signal × (unit ≡ thin_unit name signal)

@@ -1,4 +1,16 @@
 //! The top call.
 #![tactic(auto)]
 
-pub mod outcome;
+mod checker;
+mod compiling;
+mod message;
+mod outcome;
+mod running;
+#[cfg(test)]
+mod tests;
+mod thin_form;
+mod words;
+
+pub use outcome::{Cause, Outcome};
+pub use running::run;
+pub use words::compile_file;

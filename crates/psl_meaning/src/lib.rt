@@ -3,4 +3,3 @@
 
 pub mod examples;
 pub mod laws;
-pub mod values;

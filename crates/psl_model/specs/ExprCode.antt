@@ -1,5 +1,5 @@
 -- How the logic stores an expression: a code, and that no two expressions have one code.
-use Rattle.std.proofs.Common.{◌≡◌, ℕ, ap, arith}
+use Rattle.std.proofs.Common.{◌≡◌, ap, arith}
 use Rattle.std.specs.Coded.{Coded}
 use base.Stored.{Gv, gnum, gcons, num}
 use Rattle.psl_model.specs.CodeParts.{head, tail}

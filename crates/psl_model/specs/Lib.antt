@@ -17,3 +17,6 @@ pub mod FormulaView
 pub mod View
 pub mod Unit
 pub mod Uses
+pub mod SameExpr
+pub mod SameExprLaws
+pub mod FedExpr

@@ -1,5 +1,5 @@
 -- Which expressions are valid for signals of the given widths: this project's own rules, over the forms of IEEE 1364-2005, 5.
-use Rattle.std.specs.Prelude.{ℕ, suc, ◌≡◌, ◌<◌, ◌≤◌, ◌+◌, ◌^◌, max, Bool, true, false, ◌&&◌, List, length, slice_index}
+use Rattle.std.specs.Prelude.{ℕ, ◌≡◌, ◌<◌, ◌≤◌, ◌+◌, ◌^◌, max, Bool, true, false, ◌&&◌, List, length, slice_index}
 use Rattle.psl_model.specs.declared.operators.UnOp.{UnOp}
 use Rattle.psl_model.specs.declared.operators.UnOp.TheVariants.{Flip}
 use Rattle.psl_model.specs.declared.operators.BinOp.{BinOp}

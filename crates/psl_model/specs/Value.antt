@@ -4,7 +4,7 @@
 --     value_of widths values context e   its value where it is taken at `context` bits, at least its own
 --     own_value widths values e          its value at its own width
 -- `widths` and `values` have an entry for each signal, by its place. Widths have no bound here.
-use Rattle.std.specs.Prelude.{◌≡◌, ℕ, ◌+◌, ◌-◌, ◌*◌, ◌/◌, ◌%◌, ◌^◌, max, Bool, List, slice_index, count_ones, if◌then◌else◌, ◌==◌, nat_lt, nat_le, not, ◌&&◌, ◌||◌, bit_and, bit_or, bit_xor}
+use Rattle.std.specs.Prelude.{ℕ, ◌+◌, ◌-◌, ◌*◌, ◌/◌, ◌%◌, ◌^◌, max, Bool, List, slice_index, count_ones, if◌then◌else◌, ◌==◌, nat_lt, nat_le, not, ◌&&◌, ◌||◌, bit_and, bit_or, bit_xor}
 use Rattle.psl_model.specs.declared.operators.UnOp.{UnOp}
 use Rattle.psl_model.specs.declared.operators.UnOp.TheVariants.{Not, Flip, AllOnes, AnyOne, Parity}
 use Rattle.psl_model.specs.declared.operators.BinOp.{BinOp}

@@ -1,10 +1,16 @@
 //! Expressions over the signals of a unit or a module.
 
 ghost use Rattle.std.specs.Prelude.{◌≡◌, IfOk};
+ghost use Rattle.std.specs.Cmp.{on_equiv, partial_equiv_from_equiv};
+ghost use Rattle.psl_model.specs.SameExprLaws.{same_expr-is, same_expr_equiv};
+ghost use Rattle.psl_model.specs.FedExpr.{fed_expr};
+ghost use Rattle.std.proofs.Common.{ap};
+ghost use Rattle.psl_model.specs.SameExpr.{same_expr};
 ghost use Rattle.psl_model.specs.View.{expr_of};
 
 use crate::operators::{BinOp, UnOp};
 use std::alloc::{AllocError, Global};
+use std::hash::{Hash, Hasher};
 use std::marker::Model;
 
 /// An expression of IEEE 1364-2005, clause 5. The first number of `Whole`, `Bit` and `Part` is a
@@ -25,6 +31,86 @@ pub enum Expr {
     Binary(BinOp, Subexpr, Subexpr),
     /// A test, the value where it isn't 0, and the value where it is.
     Choice(Subexpr, Subexpr, Subexpr),
+}
+
+impl PartialEq for Expr {
+    ghost eq = { λ a b. same_expr (expr_of a) (expr_of b) };
+
+    ghost laws = { partial_equiv_from_equiv (on_equiv expr_of same_expr_equiv) };
+
+    fn eq(&self, other: &Expr) -> bool {
+        match (self, other) {
+            (Expr::Whole(a), Expr::Whole(b)) => a == b,
+            (Expr::Bit(a, i), Expr::Bit(b, j)) => a == b && i == j,
+            (Expr::Part(a, i, m), Expr::Part(b, j, n)) => a == b && i == j && m == n,
+            (Expr::Plain(a), Expr::Plain(b)) => a == b,
+            (Expr::Sized(a, i), Expr::Sized(b, j)) => a == b && i == j,
+            (Expr::Unary(o, a), Expr::Unary(p, b)) => o == p && a.get().eq(b.get()),
+            (Expr::Binary(o, a, c), Expr::Binary(p, b, d)) => {
+                o == p && a.get().eq(b.get()) && c.get().eq(d.get())
+            }
+            (Expr::Choice(t, a, c), Expr::Choice(u, b, d)) => {
+                t.get().eq(u.get()) && a.get().eq(b.get()) && c.get().eq(d.get())
+            }
+            _ => false,
+        }
+    }
+}
+
+impl Eq for Expr {
+    ghost laws = { on_equiv expr_of same_expr_equiv };
+}
+
+impl Hash for Expr {
+    ghost hash_input = { λ a. fed_expr (expr_of a) };
+
+    ghost respects_eq = { λ a b same. ap fed_expr (same_expr-is (expr_of a) (expr_of b) same) };
+
+    fn hash<H: Hasher>(&self, state: &mut H) {
+        match self {
+            Expr::Whole(signal) => {
+                state.write_u8(0);
+                signal.hash(state);
+            }
+            Expr::Bit(signal, place) => {
+                state.write_u8(1);
+                signal.hash(state);
+                place.hash(state);
+            }
+            Expr::Part(signal, high, low) => {
+                state.write_u8(2);
+                signal.hash(state);
+                high.hash(state);
+                low.hash(state);
+            }
+            Expr::Plain(number) => {
+                state.write_u8(3);
+                number.hash(state);
+            }
+            Expr::Sized(width, value) => {
+                state.write_u8(4);
+                width.hash(state);
+                value.hash(state);
+            }
+            Expr::Unary(op, operand) => {
+                state.write_u8(5);
+                op.hash(state);
+                operand.get().hash(state);
+            }
+            Expr::Binary(op, left, right) => {
+                state.write_u8(6);
+                op.hash(state);
+                left.get().hash(state);
+                right.get().hash(state);
+            }
+            Expr::Choice(test, yes, no) => {
+                state.write_u8(7);
+                test.get().hash(state);
+                yes.get().hash(state);
+                no.get().hash(state);
+            }
+        }
+    }
 }
 
 /// An operand, on the heap.
@@ -69,5 +155,39 @@ impl Subexpr {
     {
         let Subexpr { node } = self;
         Box::into_inner(node)
+    }
+}
+
+#[cfg(test)]
+mod tests {
+    use super::*;
+    use std::collections::HashSet;
+    use std::test::Fail;
+
+    // a[2] + 8'd200
+    #[test]
+    fn an_expression_comes_apart_as_it_was_built(rt: HostRuntime) -> Result<(), Fail> {
+        let bit = Subexpr::new(rt.alloc(), Expr::Bit(1, 2))?;
+        let number = Subexpr::new(rt.alloc(), Expr::Sized(8, 200))?;
+        let sum = Subexpr::new(rt.alloc(), Expr::Binary(BinOp::Add, bit, number))?;
+        let Expr::Binary(BinOp::Add, bit, number) = sum.into_inner() else {
+            return Err("a sum".into());
+        };
+        assert!(rt; matches!(bit.get(), Expr::Bit(1, 2)));
+        assert!(rt; matches!(number.get(), Expr::Sized(8, 200)));
+        Ok(())
+    }
+
+    #[test]
+    fn expressions_are_equal_where_their_trees_are(rt: HostRuntime) -> Result<(), Fail> {
+        let not = Expr::Unary(UnOp::Not, Subexpr::new(rt.alloc(), Expr::Whole(1))?);
+        let flip = Expr::Unary(UnOp::Flip, Subexpr::new(rt.alloc(), Expr::Whole(1))?);
+        let mut seen = HashSet::new(rt.alloc());
+        assert!(rt; seen.insert(not)?);
+        assert!(rt; !seen.contains(&flip));
+        assert!(rt;
+            seen.contains(&Expr::Unary(UnOp::Not, Subexpr::new(rt.alloc(), Expr::Whole(1))?))
+        );
+        Ok(())
     }
 }

@@ -17,7 +17,7 @@ pub enum Reach {
     Some,
 }
 
-/// A formula of IEEE 1850-2010, clause 6. `strong` tells the strong form of an operator, which is
+/// A formula of IEEE 1850-2010, 6.2.1. `strong` tells the strong form of an operator, which is
 /// written with `!`, and `overlap` the form with `_`.
 #[cycle(formula)]
 #[derive(Debug, Drop)]
@@ -114,5 +114,23 @@ impl Subformula {
     {
         let Subformula { node } = self;
         Box::into_inner(node)
+    }
+}
+
+#[cfg(test)]
+mod tests {
+    use super::*;
+    use std::test::Fail;
+
+    // !a
+    #[test]
+    fn a_formula_comes_apart_as_it_was_built(rt: HostRuntime) -> Result<(), Fail> {
+        let body = Subformula::new(rt.alloc(), Formula::Bool(Expr::Whole(7)))?;
+        let not = Subformula::new(rt.alloc(), Formula::Not(body))?;
+        let Formula::Not(body) = not.into_inner() else {
+            return Err("a negation".into());
+        };
+        assert!(rt; matches!(body.get(), Formula::Bool(Expr::Whole(7))));
+        Ok(())
     }
 }

@@ -1,4 +1,4 @@
-//! The types of PSL that every layer speaks of.
+//! The types of PSL that every layer speaks of, and what expressions are worth.
 #![tactic(auto)]
 
 mod expressions;
@@ -7,6 +7,7 @@ mod names;
 mod operators;
 mod refusals;
 mod sequences;
+pub mod values;
 
 pub use expressions::{Expr, Subexpr};
 pub use formulas::{Formula, Reach, Subformula};

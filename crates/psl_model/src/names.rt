@@ -52,7 +52,7 @@ impl PartialEq for Name {
     ghost laws = { partial_equiv_from_equiv nat_list_eq_equiv };
 
     fn eq(&self, other: &Name) -> bool {
-        self.bytes.as_slice() == other.bytes.as_slice()
+        self.bytes() == other.bytes()
     }
 }
 
@@ -66,7 +66,7 @@ impl Hash for Name {
     ghost respects_eq = { Prim.search (hashing, rules) };
 
     fn hash<H: Hasher>(&self, state: &mut H) {
-        self.bytes.as_slice().hash(state);
+        self.bytes().hash(state);
     }
 }
 
@@ -76,4 +76,33 @@ pub struct Signal {
     pub name: Name,
     /// In bits.
     pub width: u32,
+}
+
+#[cfg(test)]
+mod tests {
+    use super::*;
+    use std::collections::HashSet;
+    use std::test::Fail;
+
+    #[test]
+    fn a_name_keeps_its_bytes_and_equals_its_copy_alone(rt: HostRuntime) -> Result<(), Fail> {
+        let name = Name::new(rt.alloc(), b"req_1")?;
+        assert_eq!(rt; name.bytes(), b"req_1".as_slice());
+        let copy = name.copy(rt.alloc())?;
+        assert_eq!(rt; copy.bytes(), b"req_1".as_slice());
+        assert!(rt; copy == name);
+        for other in [b"req_2".as_slice(), b"req_", b"req_10", b""] {
+            assert!(rt; Name::new(rt.alloc(), other)? != name);
+        }
+        Ok(())
+    }
+
+    #[test]
+    fn a_set_finds_a_name_by_its_bytes(rt: HostRuntime) -> Result<(), Fail> {
+        let mut names = HashSet::new(rt.alloc());
+        assert!(rt; names.insert(Name::new(rt.alloc(), b"ack")?)?);
+        assert!(rt; names.contains(&Name::new(rt.alloc(), b"ack")?));
+        assert!(rt; !names.contains(&Name::new(rt.alloc(), b"req")?));
+        Ok(())
+    }
 }

@@ -7,7 +7,7 @@ use crate::expressions::Expr;
 use std::alloc::{AllocError, Global};
 use std::marker::Model;
 
-/// A sequence of IEEE 1850-2010, clause 5. A missing upper count is `inf`.
+/// A sequence of IEEE 1850-2010, 6.1. A missing upper count is `inf`.
 #[cycle(sere)]
 #[derive(Debug, Drop)]
 pub enum Sere {
@@ -73,5 +73,23 @@ impl Subsere {
     {
         let Subsere { node } = self;
         Box::into_inner(node)
+    }
+}
+
+#[cfg(test)]
+mod tests {
+    use super::*;
+    use std::test::Fail;
+
+    // a[*2:inf]
+    #[test]
+    fn a_sequence_comes_apart_as_it_was_built(rt: HostRuntime) -> Result<(), Fail> {
+        let a = Subsere::new(rt.alloc(), Sere::Bool(Expr::Whole(7)))?;
+        let many = Subsere::new(rt.alloc(), Sere::Repeat(a, 2, None))?;
+        let Sere::Repeat(a, 2, None) = many.into_inner() else {
+            return Err("a repetition".into());
+        };
+        assert!(rt; matches!(a.get(), Sere::Bool(Expr::Whole(7))));
+        Ok(())
     }
 }

@@ -1,4 +1,4 @@
-use Rattle.std.proofs.Common.{arith, rules, ◌<◌, length}
+use Rattle.std.proofs.Common.{rules, ◌<◌, length}
 use Rattle.mbac_io.proofs.FileLemmas.{file_at-front_taken, file_at-set_other}
 use Rattle.mbac_io.proofs.memory_inputs.read_file.Goals as goal
 

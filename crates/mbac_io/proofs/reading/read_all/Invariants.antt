@@ -1,14 +1,14 @@
-use Rattle.std.proofs.Common.{◌≡◌, ◌≢◌, ℕ, ◌≤◌, vec_len, ◌+◌, ◌-◌}
+use Rattle.std.proofs.Common.{◌≢◌, ℕ, ◌≤◌, vec_len, ◌-◌}
 use Rattle.mbac_io.specs.Device.{Keeps, Takes}
 use Rattle.mbac_io.proofs.reading.read_all.Given as goal
 
-abbrev pub invariant-loop-count : goal.invariant-loop-count
-invariant-loop-count g l = record {
+abbrev pub invariant-loop-bytes : goal.invariant-loop-bytes
+invariant-loop-bytes g l = record {
   within : vec_len l.bytes ≤ l.limit;
   taken : Takes (g.I.Inputs.left l.initial.inputs l.slot) (g.I.Inputs.left l.inputs l.slot) l.bytes.items;
   others_kept : (other : ℕ) → other ≢ l.slot → Keeps (g.I.Inputs.left l.initial.inputs other) (g.I.Inputs.left l.inputs other);
   never_falls : (any : ℕ) → g.I.Inputs.faults l.initial.inputs any ≤ g.I.Inputs.faults l.inputs any;
 }
 
-abbrev pub decreases-loop-count : goal.decreases-loop-count
-decreases-loop-count g l = l.limit - vec_len l.bytes
+abbrev pub decreases-loop-bytes : goal.decreases-loop-bytes
+decreases-loop-bytes g l = l.limit - vec_len l.bytes

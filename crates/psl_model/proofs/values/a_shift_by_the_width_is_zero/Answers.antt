@@ -3,7 +3,7 @@ use Rattle.std.proofs.Math.Nat.{mul-mod_right, div-eq_of_lt}
 use Rattle.std.proofs.Math.Pow.{pow_mono}
 use Rattle.std.proofs.lemmas.Nat.{pow-add}
 use Rattle.psl_model.specs.Value.{own_value, value_of}
-use Rattle.psl_meaning.proofs.values.a_shift_by_the_width_is_zero.Goals as goal
+use Rattle.psl_model.proofs.values.a_shift_by_the_width_is_zero.Goals as goal
 
 left_by : (x p w : ℕ) → w ≤ p → x * 2 ^ p % 2 ^ w ≡ 0
 left_by x p w within =

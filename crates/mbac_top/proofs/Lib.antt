@@ -1,0 +1,6 @@
+mod FrontLemmas
+mod ThinReading
+mod Explaining
+mod ThinNames
+mod ThinChecker
+mod Compiled
