@@ -3,3 +3,4 @@ pub mod View
 pub mod Text
 pub mod Growth
 pub mod Run
+pub mod Examples

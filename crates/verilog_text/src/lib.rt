@@ -2,6 +2,7 @@
 #![tactic(auto)]
 
 mod bytes;
+pub mod examples;
 mod expressions;
 mod module;
 mod names;
