@@ -1,0 +1,4 @@
+pub mod Members
+pub mod EdgeMembers
+pub mod BothWords
+pub mod FuseWords

@@ -1,0 +1,6 @@
+//! Products of automata.
+#![tactic(auto)]
+
+mod side;
+
+pub use side::Side;
