@@ -6,15 +6,15 @@ use Rattle.automata_product.specs.Edges.{joined, products}
 use Rattle.automata_product.specs.Both.{both_machine}
 use Rattle.automata_product.proofs.EdgeMembers.{contains-products, contains-products_cases, passes-append, passes-append_left, passes-append_right}
 
-and_intro : (b c : Bool) → IsTrue b → IsTrue c → IsTrue (b && c)
+pub and_intro : (b c : Bool) → IsTrue b → IsTrue c → IsTrue (b && c)
 and_intro true c h k = k
 and_intro false c h k = h
 
-and_left : (b c : Bool) → IsTrue (b && c) → IsTrue b
+pub and_left : (b c : Bool) → IsTrue (b && c) → IsTrue b
 and_left true c h = refl
 and_left false c h = h
 
-and_right : (b c : Bool) → IsTrue (b && c) → IsTrue c
+pub and_right : (b c : Bool) → IsTrue (b && c) → IsTrue c
 and_right true c h = h
 and_right false c h = absurd (cc)
 

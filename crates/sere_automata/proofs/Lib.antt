@@ -1,0 +1,4 @@
+pub mod LeafWords
+pub mod ConcatWords
+pub mod OneOfWords
+pub mod RepeatWords
