@@ -1,0 +1,3 @@
+pub mod LiteralSets
+pub mod Machine
+pub mod Splits

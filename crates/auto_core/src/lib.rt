@@ -1,0 +1,8 @@
+//! Automata over labels: labels, the trait that every automaton implements, tables, and from which states a table accepts.
+#![tactic(auto)]
+
+mod automaton;
+mod labels;
+
+pub use automaton::Auto;
+pub use labels::{Label, Literal};
