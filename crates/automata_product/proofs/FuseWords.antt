@@ -1,15 +1,17 @@
 -- The machine of a fusion accepts the overlaps in one letter.
 use Rattle.std.proofs.Common.{◌≡◌, ◌↔◌, Bool, true, false, IsTrue, List, [], ◌∷◌, ◌++◌, map, filter, Contains, inl, inr, refl, sym, ap, subst}
 use Rattle.std.proofs.lemmas.List.Elements.{Contains-append_left, Contains-append_right, Contains-append_cases}
-use Rattle.auto_core.specs.declared.Literal.{Literal}
+use Rattle.auto_core.specs.declared.labels.Literal.{Literal}
 use Rattle.auto_core.specs.Machine.{Letter, Passes, Machine, AcceptsFrom, Accepts}
 use Rattle.auto_core.specs.Splits.{IsFusion}
 use Rattle.automata_product.specs.declared.side.Side.{Side}
 use Rattle.automata_product.specs.declared.side.Side.TheVariants.{Left, Right}
-use Rattle.automata_product.specs.Edges.{renamed, joined, products}
+use Rattle.automata_product.specs.Edges.{renamed, products}
 use Rattle.automata_product.specs.Fuse.{fuse_machine, fuse_edges}
 use Rattle.automata_product.proofs.Members.{contains-map, contains-map_cases, contains-filter, contains-filter_cases}
-use Rattle.automata_product.proofs.EdgeMembers.{contains-products, contains-products_cases, passes-append, passes-append_left, passes-append_right}
+use Rattle.automata_product.proofs.EdgeMembers.{contains-products, contains-products_cases}
+use Rattle.auto_core.proofs.LabelLemmas.{Passes-put_all}
+use Rattle.auto_core.specs.LiteralSets.{put_all}
 
 module _ {S T : Type 0} (m : Machine S) (n : Machine T) where
   from_right : (w : List Letter) (q : T) → AcceptsFrom n q w → AcceptsFrom (fuse_machine m n) (Right q) w
@@ -32,9 +34,9 @@ module _ {S T : Type 0} (m : Machine S) (n : Machine T) where
   fuse_from [] p a v h k =
       let last = contains-filter (λ x. m.accepts x.1) (m.edges p) (h.0, h.1) h.2 h.4 in
       let joint = contains-products (λ last q. Right q) (filter (λ x. m.accepts x.1) (m.edges p)) (n.edges n.start) (h.0, h.1) (k.0, k.1) last k.2 in
-      (h.0 ++ k.0, Right k.1,
+      (put_all k.0 h.0, Right k.1,
        Contains-append_right (map (renamed Left) (m.edges p)) _ _ joint,
-       passes-append h.0 k.0 a h.3 k.3,
+       (Passes-put_all k.0 h.0 a).1 (k.3, h.3),
        from_right v k.1 k.4)
   fuse_from (b ∷ u) p a v h k =
       (h.0, Left h.1,
@@ -54,10 +56,10 @@ module _ {S T : Type 0} (m : Machine S) (n : Machine T) where
       | inr k ↦
           let r = contains-products_cases (λ last q. Right q) (filter (λ x. m.accepts x.1) (m.edges p)) (n.edges n.start) (h.0, h.1) k in
           let last = contains-filter_cases (λ x. m.accepts x.1) (m.edges p) r.0 r.2 in
-          let passed : Passes (r.0.0 ++ r.1.0) a = subst (λ l. Passes l a) (sym (ap (λ e. e.0) r.4)) h.3 in
+          let passed : Passes (put_all r.1.0 r.0.0) a = subst (λ l. Passes l a) (sym (ap (λ e. e.0) r.4)) h.3 in
           ([], a, w, refl,
-           (r.0.0, r.0.1, last.0, passes-append_left r.0.0 r.1.0 a passed, last.1),
-           (r.1.0, r.1.1, r.3, passes-append_right r.0.0 r.1.0 a passed,
+           (r.0.0, r.0.1, last.0, ((Passes-put_all r.1.0 r.0.0 a).0 passed).1, last.1),
+           (r.1.0, r.1.1, r.3, ((Passes-put_all r.1.0 r.0.0 a).0 passed).0,
             to_right w r.1.1 (subst (λ t. AcceptsFrom (fuse_machine m n) t w) (sym (ap (λ e. e.1) r.4)) h.4)))
       ]
 

@@ -1,14 +1,15 @@
-use Rattle.std.specs.Prelude.{List, ◌++◌, map, flat_map}
-use Rattle.auto_core.specs.declared.Literal.{Literal}
+use Rattle.std.specs.Prelude.{List, map, flat_map}
+use Rattle.auto_core.specs.declared.labels.Literal.{Literal}
+use Rattle.auto_core.specs.LiteralSets.{put_all}
 
 -- the edge with the same label, its target renamed
 abbrev pub renamed : {S U : Type 0} → (S → U) → List Literal × S → List Literal × U
 renamed f x = (x.0, f x.1)
 
 -- one edge of two: the literals of both labels, and a target made of both
-abbrev pub joined : {S T U : Type 0} → (S → T → U) → List Literal × S → List Literal × T → List Literal × U
-joined f x y = (x.0 ++ y.0, f x.1 y.1)
+abbrev pub joined_edge : {S T U : Type 0} → (S → T → U) → List Literal × S → List Literal × T → List Literal × U
+joined_edge f x y = (put_all y.0 x.0, f x.1 y.1)
 
 -- each edge of the first list joined with each of the second
 abbrev pub products : {S T U : Type 0} → (S → T → U) → List (List Literal × S) → List (List Literal × T) → List (List Literal × U)
-products f xs ys = flat_map (λ x. map (λ y. joined f x y) ys) xs
+products f xs ys = flat_map (λ x. map (λ y. joined_edge f x y) ys) xs

@@ -1,6 +1,6 @@
 -- The machine of a leaf accepts the lists of one letter that passes the label.
 use Rattle.std.proofs.Common.{◌≡◌, ◌↔◌, true, IsTrue, List, [], ◌∷◌, Contains, inl, inr, refl, sym, ap, subst}
-use Rattle.auto_core.specs.declared.Literal.{Literal}
+use Rattle.auto_core.specs.declared.labels.Literal.{Literal}
 use Rattle.auto_core.specs.Machine.{Letter, Passes, AcceptsFrom, Accepts}
 use Rattle.automata_product.proofs.Members.{Among, among, contains}
 use Rattle.sere_automata.specs.declared.states.LeafState.{LeafState}

@@ -2,9 +2,9 @@
 use Rattle.std.proofs.Common.{◌≡◌, ◌↔◌, ◌≢◌, ◌⊎◌, ◌∙◌, Bool, true, false, cond, IsTrue, List, [], ◌∷◌, ◌++◌, map, flat_map, append_assoc, Contains, inl, inr, refl, sym, ap, subst}
 use Rattle.std.proofs.lemmas.List.Elements.{Contains-append_left, Contains-append_right, Contains-append_cases}
 use Rattle.std.specs.List.{AllByRecursion}
-use Rattle.auto_core.specs.declared.Literal.{Literal}
+use Rattle.auto_core.specs.declared.labels.Literal.{Literal}
 use Rattle.auto_core.specs.Machine.{Letter, Passes, Machine, AcceptsFrom, Accepts}
-use Rattle.auto_core.specs.Splits.{IsConcatenation, IsRepetition}
+use Rattle.auto_core.specs.Splits.{IsConcatenation, IsRepetition, joined}
 use Rattle.automata_product.specs.Edges.{renamed}
 use Rattle.automata_product.proofs.Members.{contains-map, contains-map_cases}
 use Rattle.sere_automata.proofs.ConcatWords.{contains-if, contains-if_cases}
@@ -12,22 +12,16 @@ use Rattle.sere_automata.specs.declared.states.Round.{Round}
 use Rattle.sere_automata.specs.declared.states.Round.TheVariants.{New, Inner}
 use Rattle.sere_automata.specs.Repeat.{repeat_machine, repeat_edges}
 
-joined_parts : List (List Letter) → List Letter
-joined_parts = flat_map (λ u. u)
-
 module _ {S : Type 0} (m : Machine S) where
-  -- the rest of the parts, once the part that is read ends in a state that accepts
-  Rest : List (List Letter) → Type 0
-  Rest parts = (p : S) → IsTrue (m.accepts p) → AcceptsFrom (repeat_machine m) (Inner p) (flat_map (λ u. u) parts)
-
-  walk : (parts : List (List Letter)) → ((p : S) → IsTrue (m.accepts p) → AcceptsFrom (repeat_machine m) (Inner p) (flat_map (λ u. u) parts)) → (u : List Letter) (p : S) → AcceptsFrom m p u → AcceptsFrom (repeat_machine m) (Inner p) (u ++ flat_map (λ u. u) parts)
+  -- a part is read to its end, and then the rest of the parts
+  walk : (parts : List (List Letter)) → ((p : S) → IsTrue (m.accepts p) → AcceptsFrom (repeat_machine m) (Inner p) (joined parts)) → (u : List Letter) (p : S) → AcceptsFrom m p u → AcceptsFrom (repeat_machine m) (Inner p) (u ++ joined parts)
   walk parts rest [] p h = rest p h
   walk parts rest (a ∷ u) p h =
       (h.0, Inner h.1,
        Contains-append_left (map (renamed Inner) (m.edges p)) _ _ (contains-map (renamed Inner) (m.edges p) (h.0, h.1) h.2),
        h.3, walk parts rest u h.1 h.4)
 
-  again : (parts : List (List Letter)) → AllByRecursion (λ u. (u ≢ []) × Accepts m u) parts → (p : S) → IsTrue (m.accepts p) → AcceptsFrom (repeat_machine m) (Inner p) (flat_map (λ u. u) parts)
+  again : (parts : List (List Letter)) → AllByRecursion (λ u. (u ≢ []) × Accepts m u) parts → (p : S) → IsTrue (m.accepts p) → AcceptsFrom (repeat_machine m) (Inner p) (joined parts)
   again [] all p t = t
   again ([] ∷ parts) all p t = absurd (all.0.0 refl)
   again ((a ∷ u) ∷ parts) all p t =
@@ -38,7 +32,7 @@ module _ {S : Type 0} (m : Machine S) where
          (contains-if (m.accepts p) (map (renamed Inner) (m.edges m.start)) (h.0, Inner h.1) t led),
        h.3, walk parts (again parts all.1) u h.1 h.4)
 
-  repeat_from : (parts : List (List Letter)) → AllByRecursion (λ u. (u ≢ []) × Accepts m u) parts → Accepts (repeat_machine m) (flat_map (λ u. u) parts)
+  repeat_from : (parts : List (List Letter)) → AllByRecursion (λ u. (u ≢ []) × Accepts m u) parts → Accepts (repeat_machine m) (joined parts)
   repeat_from [] all = refl
   repeat_from ([] ∷ parts) all = absurd (all.0.0 refl)
   repeat_from ((a ∷ u) ∷ parts) all =

@@ -1,5 +1,5 @@
 use Rattle.std.specs.Prelude.{Bool, ◌&&◌, if◌then◌else◌, List, [], ◌++◌, map}
-use Rattle.auto_core.specs.declared.Literal.{Literal}
+use Rattle.auto_core.specs.declared.labels.Literal.{Literal}
 use Rattle.auto_core.specs.Machine.{Machine}
 use Rattle.automata_product.specs.declared.side.Side.{Side}
 use Rattle.automata_product.specs.declared.side.Side.TheVariants.{Left, Right}

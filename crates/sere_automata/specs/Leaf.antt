@@ -1,5 +1,5 @@
 use Rattle.std.specs.Prelude.{Bool, true, false, List, [], ◌∷◌}
-use Rattle.auto_core.specs.declared.Literal.{Literal}
+use Rattle.auto_core.specs.declared.labels.Literal.{Literal}
 use Rattle.auto_core.specs.Machine.{Machine}
 use Rattle.sere_automata.specs.declared.states.LeafState.{LeafState}
 use Rattle.sere_automata.specs.declared.states.LeafState.TheVariants.{Start, End}
