@@ -2,3 +2,4 @@ pub mod Members
 pub mod EdgeMembers
 pub mod BothWords
 pub mod FuseWords
+pub mod Places

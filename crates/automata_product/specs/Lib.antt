@@ -1,3 +1,4 @@
 pub mod Edges
 pub mod Both
 pub mod Fuse
+pub mod Same
