@@ -1,0 +1,4 @@
+pub mod Members
+pub mod LabelOrder
+pub mod LabelLemmas
+pub mod PutSearch
