@@ -3,3 +3,5 @@ pub mod EdgeMembers
 pub mod BothWords
 pub mod FuseWords
 pub mod Places
+pub mod Union
+pub mod Put

@@ -43,16 +43,20 @@ get-products f (z ∷ zs) ys (suc i) j k x y e h l =
       (omega (arith, length-map ys (λ y. joined_edge f z y)))
       (get-products f zs ys i j (i * length ys + j) x y refl h l)
 
--- where a place of the products comes from
-pub place_within : {S T U : Type 0} (f : S → T → U) (xs : List (List Literal × S)) (ys : List (List Literal × T)) (k : ℕ) → k < length (products f xs ys) → (0 < length ys) × (k / length ys < length xs) × (k % length ys < length ys)
-place_within f xs ys k h =
-    let whole : k < length xs * length ys = omega (arith, length-products f xs ys) in
-    let some : 0 < length ys = some_right (length xs) (length ys) k whole in
-    (some, (div-lt_iff_lt-mul some).1 whole, omega (arith, some)) where
-  some_right : (m n k : ℕ) → k < m * n → 0 < n
-  some_right m zero k h = absurd (omega arith)
-  some_right m (suc n) k h = omega arith
+some_right : (m n k : ℕ) → k < m * n → 0 < n
+some_right m zero k h = absurd (omega arith)
+some_right m (suc n) k h = omega arith
+
+-- a place of the products is a row and a column
+pub place_within : {S T U : Type 0} (f : S → T → U) (xs : List (List Literal × S)) (ys : List (List Literal × T)) (k n : ℕ) → n ≡ length ys → k < length (products f xs ys) → (0 < n) × (k / n < length xs) × (k % n < length ys)
+place_within f xs ys k n e h =
+    let whole : k < length xs * n = subst (λ i. k < i) (length-products f xs ys ∙ ap (λ i. length xs * i) (sym e)) h in
+    let some : 0 < n = some_right (length xs) n k whole in
+    (some, (div-lt_iff_lt-mul some).1 whole, omega (arith, some))
 
 -- a place is the quotient's row and the remainder's column
 pub place_split : (k n : ℕ) → 0 < n → k ≡ k / n * n + k % n
 place_split k n h = omega arith
+
+pub count_products : {S T U : Type 0} (f : S → T → U) (xs : List (List Literal × S)) (ys : List (List Literal × T)) (m n : ℕ) → m ≡ length xs → n ≡ length ys → m * n ≡ length (products f xs ys)
+count_products f xs ys m n e h = ap (λ i. i * n) e ∙ ap (λ j. length xs * j) h ∙ sym (length-products f xs ys)

@@ -1,13 +1,16 @@
-use Rattle.std.proofs.Common.{rules, ◌≡◌, ◌<◌, ◌^◌, ◌↔◌, true, List, length, ℕ, ◌+◌, ◌-◌, ◌*◌, ◌≤◌, ◌/◌, ◌%◌, Bool, false, nat_eq, nat_lt, [], ◌∷◌, ◌++◌, slice_index_or, slice_set, bit_and, bit_or, Fits, w8, w32, w64, Bor, MutBor}
-use Rattle.auto_core.specs.Machine.{Letter, Accepts}
-use Rattle.automata_product.specs.Both.{both_machine}
-use Rattle.automata_product.specs.Same.{same_pair}
+use Rattle.std.proofs.Common.{◌≡◌, ◌*◌, ◌<◌, ◌^◌, length, arith, Fits, w64}
+use Rattle.automata_product.specs.Edges.{products}
+use Rattle.automata_product.proofs.Places.{count_products}
 use Rattle.automata_product.proofs.both.BothAuto.edge_count.Goals as goal
 
--- src/both.rt:47:9
-pub overflow_mul-result : goal.overflow_mul-result
-overflow_mul-result g c = ?
-
--- src/both.rt:46:5
 pub returns : goal.returns
-returns g c = ?
+returns g c =
+    count_products (λ p q. (p, q))
+      ((g.A.Auto.machine c.args.self.now.left).edges c.args.state.0)
+      ((g.B.Auto.machine c.args.self.now.right).edges c.args.state.1)
+      c.edge_count.result c.edge_count-2.result c.edge_count.ensures c.edge_count-2.ensures
+
+pub overflow_mul-result : goal.overflow_mul-result
+overflow_mul-result g c =
+    let below = c.requires.fit.2 c.args.state.0 c.args.state.1 c.requires.owned.0 c.requires.owned.1 in
+    omega (arith, below, returns g c)

@@ -1,29 +1,48 @@
-use Rattle.std.proofs.Common.{rules, ◌≡◌, ◌<◌, ◌^◌, ◌↔◌, true, List, length, ℕ, ◌+◌, ◌-◌, ◌*◌, ◌≤◌, ◌/◌, ◌%◌, Bool, false, nat_eq, nat_lt, [], ◌∷◌, ◌++◌, slice_index_or, slice_set, bit_and, bit_or, Fits, w8, w32, w64, Bor, MutBor}
-use Rattle.auto_core.specs.Machine.{Letter, Accepts}
-use Rattle.automata_product.specs.Both.{both_machine}
-use Rattle.automata_product.specs.Same.{same_pair}
+use Rattle.std.proofs.lemmas.Result.{on_ok_weaker}
+use Rattle.automata_product.specs.Edges.{products}
+use Rattle.automata_product.proofs.Places.{place_within}
+use Rattle.automata_product.proofs.Put.{puts-split, passes-on_ok}
 use Rattle.automata_product.proofs.both.BothAuto.label.Goals as goal
 
--- src/both.rt:65:34
 pub nonzero_div-place : goal.nonzero_div-place
-nonzero_div-place g c = ?
+nonzero_div-place g c =
+    (place_within (λ p q. (p, q)) ((g.A.Auto.machine c.args.self.now.left).edges c.args.state.0)
+      ((g.B.Auto.machine c.args.self.now.right).edges c.args.state.1)
+      c.args.place c.edge_count-count.result c.edge_count-count.ensures c.requires.there).0
 
--- src/both.rt:65:9
 pub label-requires-clause-there : goal.label-requires-clause-there
-label-requires-clause-there g c = ?
+label-requires-clause-there g c =
+    (place_within (λ p q. (p, q)) ((g.A.Auto.machine c.args.self.now.left).edges c.args.state.0)
+      ((g.B.Auto.machine c.args.self.now.right).edges c.args.state.1)
+      c.args.place c.edge_count-count.result c.edge_count-count.ensures c.requires.there).1
 
--- src/both.rt:66:35
 pub nonzero_rem-place : goal.nonzero_rem-place
-nonzero_rem-place g c = ?
+nonzero_rem-place g c =
+    (place_within (λ p q. (p, q)) ((g.A.Auto.machine c.args.self.now.left).edges c.args.state.0)
+      ((g.B.Auto.machine c.args.self.now.right).edges c.args.state.1)
+      c.args.place c.edge_count-count.result c.edge_count-count.ensures c.requires.there).0
 
--- src/both.rt:66:9
 pub label-requires-2-clause-there : goal.label-requires-2-clause-there
-label-requires-2-clause-there g c = ?
+label-requires-2-clause-there g c =
+    (place_within (λ p q. (p, q)) ((g.A.Auto.machine c.args.self.now.left).edges c.args.state.0)
+      ((g.B.Auto.machine c.args.self.now.right).edges c.args.state.1)
+      c.args.place c.edge_count-count.result c.edge_count-count.ensures c.requires.there).2
 
--- src/both.rt:58:5
 pub returns-clause-edge : goal.returns-clause-edge
-returns-clause-edge g c = ?
+returns-clause-edge g c =
+    let within = place_within (λ p q. (p, q)) ((g.A.Auto.machine c.args.self.now.left).edges c.args.state.0)
+      ((g.B.Auto.machine c.args.self.now.right).edges c.args.state.1)
+      c.args.place c.edge_count-count.result c.edge_count-count.ensures c.requires.there in
+    on_ok_weaker c.label-2.result
+      (puts-split (λ p q. (p, q)) ((g.A.Auto.machine c.args.self.now.left).edges c.args.state.0)
+        ((g.B.Auto.machine c.args.self.now.right).edges c.args.state.1)
+        c.args.place c.edge_count-count.result c.args.onto.now c.label.new.onto c.label-2.new.onto
+        c.edge_count-count.ensures within.0 c.in_ok-label.ensures.edge)
+      c.label-2.ensures.edge
 
--- src/both.rt:58:5
 pub returns-clause-passes : goal.returns-clause-passes
-returns-clause-passes g c = ?
+returns-clause-passes g c =
+    passes-on_ok c.label-2.result
+      (products (λ p q. (p, q)) ((g.A.Auto.machine c.args.self.now.left).edges c.args.state.0)
+        ((g.B.Auto.machine c.args.self.now.right).edges c.args.state.1))
+      c.args.place c.args.onto.now c.label-2.new.onto (returns-clause-edge g c)
