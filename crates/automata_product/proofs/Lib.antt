@@ -5,3 +5,5 @@ pub mod FuseWords
 pub mod Places
 pub mod Union
 pub mod Put
+pub mod Filtered
+pub mod FusePlaces

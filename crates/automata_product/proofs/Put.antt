@@ -1,22 +1,13 @@
 -- The edge at a place of a joined machine: where it leads, and what is put into a label.
-use Rattle.std.proofs.Common.{◌≡◌, ◌↔◌, ℕ, ◌+◌, ◌*◌, ◌/◌, ◌%◌, ◌<◌, Some, List, ◌++◌, map, length, slice_get, Result, OnOk, refl, sym, ap, ◌∙◌, subst}
+use Rattle.std.proofs.Common.{◌≡◌, ◌↔◌, ℕ, zero, suc, [], ◌∷◌, arith, ◌+◌, ◌*◌, ◌/◌, ◌%◌, ◌<◌, Some, List, ◌++◌, map, length, slice_get, Result, OnOk, refl, sym, ap, ◌∙◌, subst}
 use Rattle.std.proofs.lemmas.Result.{on_ok_weaker}
 use Rattle.auto_core.specs.declared.labels.Literal.{Literal}
 use Rattle.auto_core.specs.LiteralSets.{IsLabel, put_all}
 use Rattle.auto_core.specs.Machine.{Letter, Passes}
 use Rattle.auto_core.proofs.LabelLemmas.{IsLabel-put_all, Passes-put_all}
-use Rattle.automata_product.specs.Edges.{renamed, joined_edge, products}
-use Rattle.automata_product.proofs.Places.{get-map, get-append_left, get-append_right, get-products, place_split}
+use Rattle.automata_product.specs.Edges.{renamed, joined_edge, products, LeadsTo, PutsEdge}
+use Rattle.automata_product.proofs.Places.{get-map, get-append_left, get-append_right, get-products, place_split, place_within}
 use Rattle.automata_product.proofs.Union.{put_union}
-
--- the edge at the place leads to the state
-abbrev pub LeadsTo : {S : Type 0} → List (List Literal × S) → ℕ → S → Type 0
-LeadsTo edges k next = (label : List Literal) × (slice_get edges k ≡ Some (label, next))
-
--- the literals of the edge at the place are put into the old set
-abbrev pub PutsEdge : {S : Type 0} → List (List Literal × S) → ℕ → List Literal → List Literal → Type 0
-PutsEdge {S} edges k old new =
-    (label : List Literal) × (next : S) × (slice_get edges k ≡ Some (label, next)) × IsLabel label × (new ≡ put_all label old)
 
 -- a letter passes the new set exactly if it passes the edge at the place and the old set
 abbrev pub PassesEdge : {S : Type 0} → List (List Literal × S) → ℕ → List Literal → List Literal → Type 0
@@ -43,6 +34,16 @@ module _ {S : Type 0} where
   pub puts-right : (xs ys : List (List Literal × S)) (j k : ℕ) (old new : List Literal) → k ≡ length xs + j → PutsEdge ys j old new → PutsEdge (xs ++ ys) k old new
   puts-right xs ys j k old new e h = (h.0, h.1, get-append_right xs ys j k (h.0, h.1) e h.2, h.3, h.4)
 
+  -- what is put in is the same where the two lists have the same edge at their places
+  pub puts-same : (xs ys : List (List Literal × S)) (j k : ℕ) (old new : List Literal) → slice_get xs j ≡ slice_get ys k → PutsEdge xs j old new → PutsEdge ys k old new
+  puts-same xs ys j k old new e h = (h.0, h.1, sym e ∙ h.2, h.3, h.4)
+
+  -- some edge stands at each place below the length
+  pub edge_there : (xs : List (List Literal × S)) (k : ℕ) → k < length xs → (next : S) × LeadsTo xs k next
+  edge_there [] k h = absurd (omega arith)
+  edge_there (x ∷ xs) zero h = (x.1, (x.0, refl))
+  edge_there (x ∷ xs) (suc k) h = edge_there xs k (omega arith)
+
 module _ {S T : Type 0} (f : S → T) where
   pub leads-renamed : (xs : List (List Literal × S)) (k : ℕ) (next : S) → LeadsTo xs k next → LeadsTo (map (renamed f) xs) k (f next)
   leads-renamed xs k next h = (h.0, get-map (renamed f) xs k (h.0, next) h.1)
@@ -68,3 +69,10 @@ module _ {S T U : Type 0} (f : S → T → U) (xs : List (List Literal × S)) (y
   pub puts-split : (k n : ℕ) (old mid new : List Literal) → n ≡ length ys → 0 < n → PutsEdge xs (k / n) old mid → PutsEdge ys (k % n) mid new → PutsEdge (products f xs ys) k old new
   puts-split k n old mid new e some h l =
       puts-products (k / n) (k % n) k old mid new (place_split k n some ∙ ap (λ i. k / n * i + k % n) e) h l
+
+-- the target of a joined edge by its column, where it is the second edge's alone
+pub leads-column : {S T U : Type 0} (f : T → U) (xs : List (List Literal × S)) (ys : List (List Literal × T)) (k n : ℕ) (q : T) → n ≡ length ys → k < length (products (λ p q. f q) xs ys) → LeadsTo ys (k % n) q → LeadsTo (products (λ p q. f q) xs ys) k (f q)
+leads-column f xs ys k n q e within l =
+    let at = place_within (λ p q. f q) xs ys k n e within in
+    let row = edge_there xs (k / n) at.1 in
+    leads-split (λ p q. f q) xs ys k n row.0 q e at.0 row.1 l

@@ -10,11 +10,17 @@ abbrev pub fuse_accepts : {S T : Type 0} → Machine T → Side S T → Bool
 fuse_accepts n (Left p) = false
 fuse_accepts n (Right q) = n.accepts q
 
+-- the edges that lead to a state that accepts
+abbrev pub last_edges : {S : Type 0} → Machine S → S → List (List Literal × S)
+last_edges m p = filter (λ x. m.accepts x.1) (m.edges p)
+
+-- each last step of the left part from this state, together with each first step of the right part
+abbrev pub joint_edges : {S T : Type 0} → Machine S → Machine T → S → List (List Literal × Side S T)
+joint_edges m n p = products (λ last q. Right q) (last_edges m p) (n.edges n.start)
+
 -- a last step of the left part is taken together with a first step of the right part
 abbrev pub fuse_edges : {S T : Type 0} → Machine S → Machine T → Side S T → List (List Literal × Side S T)
-fuse_edges m n (Left p) =
-    map (renamed Left) (m.edges p)
-    ++ products (λ last q. Right q) (filter (λ x. m.accepts x.1) (m.edges p)) (n.edges n.start)
+fuse_edges m n (Left p) = map (renamed Left) (m.edges p) ++ joint_edges m n p
 fuse_edges m n (Right q) = map (renamed Right) (n.edges q)
 
 -- first the left part, then the right part, the two overlapping in one step

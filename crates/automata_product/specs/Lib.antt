@@ -2,3 +2,4 @@ pub mod Edges
 pub mod Both
 pub mod Fuse
 pub mod Same
+pub mod Sides

@@ -9,7 +9,7 @@ use auto_core::{Auto, Label};
 use std::alloc::AllocError;
 
 /// Accepts what both parts accept.
-#[derive(Debug, Clone, Copy, PartialEq, Eq, Hash)]
+#[derive(Debug, Drop)]
 pub struct Both<A, B> {
     pub left: A,
     pub right: B,
