@@ -1,4 +1,5 @@
-pub mod Members
-pub mod LabelOrder
+pub mod Deciding
 pub mod LabelLemmas
+pub mod LabelOrder
+pub mod Members
 pub mod PutSearch
