@@ -42,10 +42,14 @@ pub record Step (S : Type 0) : Type 0 where
   pub label : List Literal
   pub to : S
 
+-- the edges of the state s, which has the number n
+abbrev pub steps_of : {S : Type 0} → Machine S → ℕ → S → List (Step S)
+steps_of m n s = map (λ e. record { from = n; label = e.0; to = e.1 }) (m.edges s)
+
 -- the edges of these states in their order, where the first of them has the number n
 abbrev pub steps_from : {S : Type 0} → Machine S → ℕ → List S → List (Step S)
 steps_from m n [] = []
-steps_from m n (s ∷ ss) = map (λ e. record { from = n; label = e.0; to = e.1 }) (m.edges s) ++ steps_from m (suc n) ss
+steps_from m n (s ∷ ss) = steps_of m n s ++ steps_from m (suc n) ss
 
 -- the same edge between numbers, where each state has its place among the names for its number
 abbrev pub numbered : {S : Type 0} → (S → S → Bool) → List S → Step S → Edge
