@@ -1,5 +1,5 @@
 -- What is put into a label is in it, and a label is determined by its members.
-use Rattle.std.proofs.Common.{◌≡◌, ℕ, ◌<◌, ◌≤◌, Bool, true, false, cond, List, [], ◌∷◌, Contains, ◌⊎◌, ◌↔◌, inl, inr, refl, sym, ap, ◌∙◌, subst, Some, None, arith}
+use Rattle.std.proofs.Common.{◌≡◌, ℕ, ◌<◌, ◌≤◌, Bool, true, false, cond, List, [], ◌∷◌, ◌++◌, slice_get, Contains, ◌⊎◌, ◌↔◌, inl, inr, refl, sym, ap, ◌∙◌, subst, Some, None, arith}
 use Rattle.std.specs.List.{AllByRecursion}
 use Rattle.auto_core.specs.declared.labels.Literal.{Literal}
 use Rattle.auto_core.specs.LiteralSets.{precedes, IsLabel, put_literal, put_all}
@@ -181,3 +181,19 @@ put_all-put_all ys xs zs hx hy hz = same_label (put_all (put_all ys xs) zs) (put
       | inl g ↦ inl (Among-put_all_back ys xs l (inl g))
       | inr g ↦ elim (Among-put_all xs zs l g) [ inl i ↦ inl (Among-put_all_back ys xs l (inr i)) | inr i ↦ inr i ]
     ]))
+
+-- the clause `passes` of `Auto::label` follows from its clause `edge`
+pub passes_by_edge : {S : Type 0} (edges : List (List Literal × S)) (place : ℕ) (old new : List Literal)
+    → (label : List Literal) × (next : S) × (slice_get edges place ≡ Some (label, next)) × IsLabel label × (new ≡ put_all label old)
+    → (label : List Literal) × (next : S) × (slice_get edges place ≡ Some (label, next)) × ((a : Letter) → Passes new a ↔ (Passes label a × Passes old a))
+passes_by_edge edges place old new (label, next, there, ordered, same) =
+    (label, next, there, λ a. subst (λ (s : List Literal). Passes s a ↔ (Passes label a × Passes old a)) (sym same) (Passes-put_all label old a))
+
+-- what was there stays
+pub kept_by_put_all : (ls old new : List Literal) → new ≡ put_all ls old → (l : Literal) → Contains old l → Contains new l
+kept_by_put_all ls old new same l h = subst (λ (s : List Literal). Contains s l) (sym same) ((Contains-put_all ls old l).1 (inr h))
+
+-- one more literal of a list put in
+pub put_all-push : (ls : List Literal) (l : Literal) (ms : List Literal) → put_all (ls ++ l ∷ []) ms ≡ put_literal l (put_all ls ms)
+put_all-push [] l ms = refl
+put_all-push (k ∷ ls) l ms = put_all-push ls l (put_literal k ms)

@@ -1,3 +1,5 @@
+pub mod Graph
 pub mod LiteralSets
 pub mod Machine
+pub mod Rows
 pub mod Splits

@@ -60,3 +60,35 @@ pub trait Auto {
     // Two states for which `==` answers true are the same state.
     ghost same: { (x y : Self.State) → Self.State.eq x y ≡ true → x ≡ y };
 }
+
+impl<A: Auto> Auto for &A {
+    type State = A::State;
+
+    ghost machine = { λ a. A.machine a.now };
+
+    ghost own = { λ a. A.own a.now };
+
+    ghost fits = { λ a. A.fits a.now };
+
+    fn start(&self) -> A::State {
+        A::start(*self)
+    }
+
+    fn accepts(&self, state: A::State) -> bool {
+        A::accepts(*self, state)
+    }
+
+    fn edge_count(&self, state: A::State) -> usize {
+        A::edge_count(*self, state)
+    }
+
+    fn target(&self, state: A::State, place: usize) -> A::State {
+        A::target(*self, state, place)
+    }
+
+    fn label(&self, state: A::State, place: usize, onto: &mut Label) -> Result<(), AllocError> {
+        A::label(*self, state, place, onto)
+    }
+
+    ghost same = { A.same };
+}

@@ -2,11 +2,14 @@
 
 ghost use Rattle.std.specs.Prelude.{◌≡◌, ◌<◌, ◌⊎◌, ◌↔◌, [], length, Some, IsTrue, OnOk, OnErr, All, Contains};
 ghost use Rattle.auto_core.specs.declared.labels.Literal.{Literal};
-ghost use Rattle.auto_core.specs.LiteralSets.{IsLabel, put_literal};
+ghost use Rattle.auto_core.specs.LiteralSets.{IsLabel, put_literal, put_all};
 ghost use Rattle.auto_core.specs.Machine.{Passes, value_in};
+ghost use Rattle.std.specs.Hash as fed;
+ghost use Rattle.std.specs.Cmp.Lexicographic.{pointwise, lists_per, lists_equiv};
 
 use smallvec::SmallVec;
 use std::alloc::{AllocError, Global};
+use std::hash::{Hash, Hasher};
 use std::marker::Model;
 
 /// A symbol, or its negation where `positive` is false.
@@ -32,6 +35,36 @@ impl Model for Label {
     ghost view = { λ l. l.literals.items };
 
     ghost invariant = { λ l. IsLabel l.literals.items };
+}
+
+impl PartialEq for Label {
+    ghost eq = { pointwise ⟦<Literal as PartialEq>⟧.eq };
+
+    ghost use Rattle.auto_core.specs.contracts.labels.LiteralPartialEq.TheImpl.Laws as of_literal;
+
+    ghost laws = { lists_per of_literal.laws-law };
+
+    fn eq(&self, other: &Label) -> bool {
+        self.literals.as_slice() == other.literals.as_slice()
+    }
+}
+
+impl Eq for Label {
+    ghost use Rattle.auto_core.specs.contracts.labels.LiteralEq.TheImpl.Laws as of_literal;
+
+    ghost laws = { lists_equiv of_literal.laws-law };
+}
+
+impl Hash for Label {
+    ghost hash_input = { fed.slice ⟦<Literal as Hash>⟧.hash_input };
+
+    ghost use Rattle.auto_core.specs.contracts.labels.LiteralHash.TheImpl.Laws as of_literal;
+
+    ghost respects_eq = { (fed.items_Alike (record { fed = of_literal.respects_eq-law })).fed };
+
+    fn hash<H: Hasher>(&self, state: &mut H) {
+        self.literals.as_slice().hash(state);
+    }
 }
 
 impl Label {
@@ -72,5 +105,16 @@ impl Label {
         self.literals()
             .iter()
             .all(|literal| values[literal.symbol] == literal.positive)
+    }
+
+    /// Puts all the literals of another label into the set. After want of memory some of them may be there, beside all that were.
+    pub fn put_all(&mut self, other: &Label) -> Result<(), AllocError>
+        ensures ok { OnOk result (self.new ≡ put_all other.now self.old) }
+        ensures kept { (l : Literal) → Contains self.old l → Contains self.new l }
+    {
+        for literal in other.literals() {
+            self.put(*literal)?;
+        }
+        Ok(())
     }
 }

@@ -3,6 +3,8 @@
 
 mod automaton;
 mod labels;
+mod tables;
 
 pub use automaton::Auto;
 pub use labels::{Label, Literal};
+pub use tables::{Edge, Table};
