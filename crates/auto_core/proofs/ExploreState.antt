@@ -47,28 +47,32 @@ module _ {S : Type 0} (eq : S → S → Bool) (decides : (x y : S) → Decides (
   state_taken place names edges names' edges' named inside taken =
       let step : Step S = record { from = from; label = taken.label; to = taken.next } in
       let at : slice_get (steps_of m from state) place ≡ Some (record { from = from; label = taken.label; to = taken.next }) =
-        slice_get-map (λ (e : List Literal × S). record { from = from; label = e.0; to = e.1 }) (m.edges state) place
-        ∙ ap (option_map (λ (e : List Literal × S). record { from = from; label = e.0; to = e.1 })) taken.there in
+      slice_get-map (λ (e : List Literal × S). record { from = from; label = e.0; to = e.1 }) (m.edges state) place
+      ∙ ap (option_map (λ (e : List Literal × S). record { from = from; label = e.0; to = e.1 })) taken.there in
       record {
         explored = subst (λ (steps : List (Step S)). IsExplored eq own m limit steps names' edges')
-          (append_assoc (steps_from m 0 (take from names0)) (take place (steps_of m from state)) (step ∷ [])
+            (append_assoc (steps_from m 0 (take from names0)) (take place (steps_of m from state)) (step ∷ [])
             ∙ ap (λ (s : List (Step S)). steps_from m 0 (take from names0) ++ s) (sym (take-next (steps_of m from state) place step at)))
-          (step_taken eq decides own m limit _ names edges state from place names' edges' inside.explored (state_reached place names edges named inside) taken);
+            (step_taken eq decides own m limit _ names edges state from place names' edges' inside.explored (state_reached place names edges named inside) taken);
         grows = elim (among_or_not eq decides names taken.next) [
-            inl h ↦ (inside.grows.0, taken.named ∙ insert_key-there eq decides names taken.next h ∙ inside.grows.1)
-          | inr out ↦ (inside.grows.0 ++ taken.next ∷ [],
-              taken.named ∙ insert_key-new eq decides names taken.next out ∙ ap (λ (s : List S). s ++ taken.next ∷ []) inside.grows.1 ∙ append_assoc names0 inside.grows.0 (taken.next ∷ []))
-          ];
+          | inl h ↦ (inside.grows.0, taken.named ∙ insert_key-there eq decides names taken.next h ∙ inside.grows.1)
+          | inr out ↦ (
+            inside.grows.0 ++ taken.next ∷ [],
+            taken.named ∙ insert_key-new eq decides names taken.next out ∙ ap (λ (s : List S). s ++ taken.next ∷ []) inside.grows.1 ∙ append_assoc names0 inside.grows.0 (taken.next ∷ []),
+          )
+        ];
         adds = added (record { from = from; label = taken.label; to = position_or_len (eq taken.next) names }) refl taken.added;
       }
     where
       added : (edge : Edge) → edge.from ≡ from → edges' ≡ insert_key same_edge edges edge → AddsEdgesOf from edges0 edges'
       added edge leaves same = elim (among_or_not same_edge same_edge-Decides edges edge) [
-          inl h ↦ (inside.adds.0, same ∙ insert_key-there same_edge same_edge-Decides edges edge h ∙ inside.adds.1, inside.adds.2)
-        | inr out ↦ (inside.adds.0 ++ edge ∷ [],
-            same ∙ insert_key-new same_edge same_edge-Decides edges edge out ∙ ap (λ (s : List Edge). s ++ edge ∷ []) inside.adds.1 ∙ append_assoc edges0 inside.adds.0 (edge ∷ []),
-            All-push (λ e. e.from ≡ from) inside.adds.0 edge inside.adds.2 leaves)
-        ]
+        | inl h ↦ (inside.adds.0, same ∙ insert_key-there same_edge same_edge-Decides edges edge h ∙ inside.adds.1, inside.adds.2)
+        | inr out ↦ (
+          inside.adds.0 ++ edge ∷ [],
+          same ∙ insert_key-new same_edge same_edge-Decides edges edge out ∙ ap (λ (s : List Edge). s ++ edge ∷ []) inside.adds.1 ∙ append_assoc edges0 inside.adds.0 (edge ∷ []),
+          All-push (λ e. e.from ≡ from) inside.adds.0 edge inside.adds.2 leaves,
+        )
+      ]
 
   pub state_done : (names : List S) (edges : List Edge) (place : ℕ) → place ≡ length (m.edges state) → slice_get names0 from ≡ Some state
       → IsInState eq own m limit names0 edges0 state from place names edges
@@ -79,12 +83,12 @@ module _ {S : Type 0} (eq : S → S → Bool) (decides : (x y : S) → Decides (
       let count : length (steps_of m from state) ≡ length (m.edges state) = length-map (m.edges state) (λ (e : List Literal × S). record { from = from; label = e.0; to = e.1 }) in
       let whole : take place (steps_of m from state) ≡ steps_of m from state = take_all place (steps_of m from state) (omega arith) in
       let front : take (from + 1) names ≡ take from names0 ++ state ∷ [] =
-        ap (take (from + 1)) same ∙ take-next (names0 ++ more) from state (slice_get-left names0 more from state named)
-        ∙ ap (λ (s : List S). s ++ state ∷ []) (take-append-le from names0 more (omega arith)) in
+      ap (take (from + 1)) same ∙ take-next (names0 ++ more) from state (slice_get-left names0 more from state named)
+      ∙ ap (λ (s : List S). s ++ state ∷ []) (take-append-le from names0 more (omega arith)) in
       let long : length (take from names0) ≡ from = length-take-le from names0 (omega arith) in
       subst (λ (steps : List (Step S)). IsExplored eq own m limit steps names edges)
-        (ap (λ (s : List (Step S)). steps_from m 0 (take from names0) ++ s) whole
-          ∙ ap (λ (k : ℕ). steps_from m 0 (take from names0) ++ steps_of m k state) (let e : from ≡ 0 + length (take from names0) = omega arith in e)
-          ∙ sym (steps_from-push m 0 (take from names0) state)
-          ∙ ap (steps_from m 0) (sym front))
-        inside.explored
+      (ap (λ (s : List (Step S)). steps_from m 0 (take from names0) ++ s) whole
+      ∙ ap (λ (k : ℕ). steps_from m 0 (take from names0) ++ steps_of m k state) (let e : from ≡ 0 + length (take from names0) = omega arith in e)
+      ∙ sym (steps_from-push m 0 (take from names0) state)
+      ∙ ap (steps_from m 0) (sym front))
+      inside.explored

@@ -37,12 +37,12 @@ both_true false b h k = h
 
 -- `==` of two edges answers true exactly where they are one
 pub same_edge-Decides : (a b : Edge) → Decides (same_edge a b) (a ≡ b)
-same_edge-Decides a b =
-    (λ h. let froms : a.from ≡ b.from = (Decides-eqb a.from b.from).0 (first_true (eqb a.from b.from) _ h) in
+same_edge-Decides a b = (
+  λ h. let froms : a.from ≡ b.from = (Decides-eqb a.from b.from).0 (first_true (eqb a.from b.from) _ h) in
       let rest : (same_label a.label b.label && eqb a.to b.to) ≡ true = second_true (eqb a.from b.from) _ h in
       let labels : a.label ≡ b.label = (same_label-Decides a.label b.label).0 (first_true (same_label a.label b.label) _ rest) in
       let tos : a.to ≡ b.to = (Decides-eqb a.to b.to).0 (second_true (same_label a.label b.label) _ rest) in
       λ i. record { from = froms i; label = labels i; to = tos i },
-      λ e. both_true (eqb a.from b.from) _ ((Decides-eqb a.from b.from).1 (ap (λ (x : Edge). x.from) e))
-        (both_true (same_label a.label b.label) _ ((same_label-Decides a.label b.label).1 (ap (λ (x : Edge). x.label) e)) ((Decides-eqb a.to b.to).1 (ap (λ (x : Edge). x.to) e))))
-
+  λ e. both_true (eqb a.from b.from) _ ((Decides-eqb a.from b.from).1 (ap (λ (x : Edge). x.from) e))
+      (both_true (same_label a.label b.label) _ ((same_label-Decides a.label b.label).1 (ap (λ (x : Edge). x.label) e)) ((Decides-eqb a.to b.to).1 (ap (λ (x : Edge). x.to) e))),
+)

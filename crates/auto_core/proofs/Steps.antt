@@ -74,12 +74,12 @@ module _ {S : Type 0} (eq : S → S → Bool) (decides : (x y : S) → Decides (
   numbers-stay : (steps : List (Step S)) (names : List S) (edges : List Edge) (next : S) → IsExplored eq own m limit steps names edges → map (numbered eq (insert_key eq names next)) steps ≡ map (numbered eq names) steps
   numbers-stay steps names edges next seen =
       elim (among_or_not eq decides names next) [
-        inl h ↦ ap (λ (s : List S). map (numbered eq s) steps) (insert_key-there eq decides names next h)
-      | inr out ↦ map-agree (numbered eq (insert_key eq names next)) (numbered eq names) steps (λ step k.
-          let same : position_or_len (eq step.to) (insert_key eq names next) ≡ position_or_len (eq step.to) names =
+        | inl h ↦ ap (λ (s : List S). map (numbered eq s) steps) (insert_key-there eq decides names next h)
+        | inr out ↦ map-agree (numbered eq (insert_key eq names next)) (numbered eq names) steps (λ step k.
+            let same : position_or_len (eq step.to) (insert_key eq names next) ≡ position_or_len (eq step.to) names =
             ap (position_or_len (eq step.to)) (insert_key-new eq decides names next out)
             ∙ position-more eq decides names (next ∷ []) step.to (names-among steps names edges seen step.to (inr (Among-map (λ (e : Step S). e.to) steps step k))) in
-          ap (λ (n : ℕ). record { from = step.from; label = step.label; to = n }) same)
+            ap (λ (n : ℕ). record { from = step.from; label = step.label; to = n }) same)
       ]
 
   -- one more edge of a state that is reached
@@ -90,47 +90,48 @@ module _ {S : Type 0} (eq : S → S → Bool) (decides : (x y : S) → Decides (
       let step : Step S = record { from = from; label = taken.label; to = taken.next } in
       record {
         named =
-          taken.named ∙ ap (λ (s : List S). insert_key eq s taken.next) seen.named
-          ∙ sym (once_each-push eq decides (m.start ∷ map (λ e. e.to) steps) taken.next)
-          ∙ ap (λ (s : List S). once_each eq (m.start ∷ s)) (sym (map-append (λ (e : Step S). e.to) steps (step ∷ [])));
+            taken.named ∙ ap (λ (s : List S). insert_key eq s taken.next) seen.named
+            ∙ sym (once_each-push eq decides (m.start ∷ map (λ e. e.to) steps) taken.next)
+            ∙ ap (λ (s : List S). once_each eq (m.start ∷ s)) (sym (map-append (λ (e : Step S). e.to) steps (step ∷ [])));
         owned = inserted own taken.owned seen.owned;
         reached = inserted (Reached m) (by_edge taken.label taken.next reached (Contains-from_Among (m.edges state) (taken.label, taken.next) (Among-slice_get (m.edges state) place (taken.label, taken.next) taken.there))) seen.reached;
         few = elim (among_or_not eq decides names taken.next) [
-            inl h ↦ let e : length names' ≡ length names = ap (λ (s : List S). length s) (taken.named ∙ insert_key-there eq decides names taken.next h) in omega (arith, seen.few)
+          | inl h ↦ let e : length names' ≡ length names = ap (λ (s : List S). length s) (taken.named ∙ insert_key-there eq decides names taken.next h) in omega (arith, seen.few)
           | inr out ↦
-            let e : length names' ≡ length (names ++ taken.next ∷ []) = ap (λ (s : List S). length s) (taken.named ∙ insert_key-new eq decides names taken.next out) in
-            let l : length (names ++ taken.next ∷ []) ≡ length names + 1 = length-append names (taken.next ∷ []) in
-            let p : position_or_len (eq taken.next) names ≡ length names = position-absent eq decides names taken.next out in
-            omega (arith, taken.room)
-          ];
+              let e : length names' ≡ length (names ++ taken.next ∷ []) = ap (λ (s : List S). length s) (taken.named ∙ insert_key-new eq decides names taken.next out) in
+              let l : length (names ++ taken.next ∷ []) ≡ length names + 1 = length-append names (taken.next ∷ []) in
+              let p : position_or_len (eq taken.next) names ≡ length names = position-absent eq decides names taken.next out in
+              omega (arith, taken.room)
+        ];
         joined =
-          taken.added ∙ ap (λ (s : List Edge). insert_key same_edge s (record { from = from; label = taken.label; to = position_or_len (eq taken.next) names })) seen.joined
-          ∙ sym (once_each-push same_edge same_edge-Decides (map (numbered eq names) steps) (record { from = from; label = taken.label; to = position_or_len (eq taken.next) names }))
-          ∙ ap (once_each same_edge)
+            taken.added ∙ ap (λ (s : List Edge). insert_key same_edge s (record { from = from; label = taken.label; to = position_or_len (eq taken.next) names })) seen.joined
+            ∙ sym (once_each-push same_edge same_edge-Decides (map (numbered eq names) steps) (record { from = from; label = taken.label; to = position_or_len (eq taken.next) names }))
+            ∙ ap (once_each same_edge)
             (ap (λ (s : List Edge). s ++ (record { from = from; label = taken.label; to = position_or_len (eq taken.next) names }) ∷ [])
-                (sym (numbers-stay steps names edges taken.next seen) ∙ ap (λ (s : List S). map (numbered eq s) steps) (sym taken.named))
-              ∙ ap (λ (n : ℕ). map (numbered eq names') steps ++ (record { from = from; label = taken.label; to = n }) ∷ [])
-                (sym (position-inserted eq decides names taken.next) ∙ ap (position_or_len (eq taken.next)) (sym taken.named))
-              ∙ sym (map-append (numbered eq names') steps (step ∷ [])));
+            (sym (numbers-stay steps names edges taken.next seen) ∙ ap (λ (s : List S). map (numbered eq s) steps) (sym taken.named))
+            ∙ ap (λ (n : ℕ). map (numbered eq names') steps ++ (record { from = from; label = taken.label; to = n }) ∷ [])
+            (sym (position-inserted eq decides names taken.next) ∙ ap (position_or_len (eq taken.next)) (sym taken.named))
+            ∙ sym (map-append (numbered eq names') steps (step ∷ [])));
       }
     where
       inserted : (P : S → Type 0) → P taken.next → All P names → All P names'
       inserted P here all = elim (among_or_not eq decides names taken.next) [
-          inl h ↦ All-same P names' names (taken.named ∙ insert_key-there eq decides names taken.next h) all
+        | inl h ↦ All-same P names' names (taken.named ∙ insert_key-there eq decides names taken.next h) all
         | inr out ↦ All-same P names' (names ++ taken.next ∷ []) (taken.named ∙ insert_key-new eq decides names taken.next out) (All-push P names taken.next all here)
-        ]
+      ]
 
   -- a state for which there is no number is one too many
   pub too_many_after : (steps : List (Step S)) (names : List S) (edges : List Edge) (state : S) (place : ℕ)
       → IsExplored eq own m limit steps names edges → Reached m state → FindsTooMany eq m limit state place names → ReachesMoreThan m limit
   too_many_after steps names edges state place seen reached found =
       elim (among_or_not eq decides names found.next) [
-        inl h ↦ let p = (position-Among eq decides names found.next h).0 in absurd (omega (arith, found.full, seen.few))
-      | inr out ↦
-        let l : length (names ++ found.next ∷ []) ≡ length names + 1 = length-append names (found.next ∷ []) in
-        let p : position_or_len (eq found.next) names ≡ length names = position-absent eq decides names found.next out in
-        (names ++ found.next ∷ [],
-          AllPairs-from_Apart (names ++ found.next ∷ []) (Apart-push names found.next (names-apart steps names edges seen) out),
-          All-push (Reached m) names found.next seen.reached (by_edge found.label found.next reached (Contains-from_Among (m.edges state) (found.label, found.next) (Among-slice_get (m.edges state) place (found.label, found.next) found.there))),
-          omega (arith, found.full))
+        | inl h ↦ let p = (position-Among eq decides names found.next h).0 in absurd (omega (arith, found.full, seen.few))
+        | inr out ↦
+            let l : length (names ++ found.next ∷ []) ≡ length names + 1 = length-append names (found.next ∷ []) in
+            let p : position_or_len (eq found.next) names ≡ length names = position-absent eq decides names found.next out in (
+              names ++ found.next ∷ [],
+              AllPairs-from_Apart (names ++ found.next ∷ []) (Apart-push names found.next (names-apart steps names edges seen) out),
+              All-push (Reached m) names found.next seen.reached (by_edge found.label found.next reached (Contains-from_Among (m.edges state) (found.label, found.next) (Among-slice_get (m.edges state) place (found.label, found.next) found.there))),
+              omega (arith, found.full),
+            )
       ]

@@ -1,6 +1,6 @@
 //! The table of the states that an automaton reaches.
 
-ghost use Rattle.std.specs.Prelude.{◌≡◌, ◌↔◌, ℕ, ◌+◌, ◌<◌, ◌≤◌, List, [], ◌++◌, Some, length, take, slice_get, OnOk, IfOk, IsErrOf};
+ghost use Rattle.std.specs.Prelude.{◌≡◌, ◌↔◌, ℕ, ◌+◌, ◌<◌, ◌≤◌, List, [], ◌∷◌, ◌++◌, Some, length, take, slice_get, OnOk, IfOk, IsErrOf};
 ghost use Rattle.std.specs.List.{position_or_len};
 ghost use Rattle.indexmap.specs.IndexSet.{insert_key, IsEmpty};
 ghost use Rattle.auto_core.specs.declared.exploring.TableError.TheVariants.{TooMany};
@@ -65,6 +65,16 @@ fn put_edge(edges: &mut IndexSet<Edge>, edge: Edge) -> Result<(), TableError>
 {
     match edges.insert(edge) {
         Ok(_) => Ok(()),
+        Err(_) => Err(TableError::OutOfMemory),
+    }
+}
+
+fn put_row(rows: &mut Vec<Row>, row: Row) -> Result<(), TableError>
+    ensures added { OnOk result (rows.new.items ≡ rows.old.items ++ row ∷ []) }
+    ensures memory { ¬ IsErrOf result TooMany }
+{
+    match rows.push(row) {
+        Ok(()) => Ok(()),
         Err(_) => Err(TableError::OutOfMemory),
     }
 }
@@ -161,9 +171,7 @@ fn explore<A: Auto>(
             first,
             end: seen.edges.len(),
         };
-        if rows.push(row).is_err() {
-            return Err(TableError::OutOfMemory);
-        }
+        put_row(rows, row)?;
     }
     Ok(())
 }
