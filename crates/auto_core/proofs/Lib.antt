@@ -1,7 +1,11 @@
-pub mod Deciding
+pub mod ExploreAll
+pub mod ExploreState
 pub mod LabelLemmas
 pub mod LabelOrder
 pub mod Members
 pub mod Once
 pub mod PutSearch
+pub mod Reaching
 pub mod RowLemmas
+pub mod SameLabel
+pub mod Steps

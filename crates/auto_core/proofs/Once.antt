@@ -1,6 +1,7 @@
 -- Lists of which each element is kept at its first place only, where a test decides which elements are equal.
 use Rattle.std.proofs.Common.{◌≡◌, ℕ, zero, suc, ◌+◌, ◌<◌, ◌≤◌, Bool, true, false, not, cond, ◌||◌, List, [], ◌∷◌, ◌++◌, length, get_or, map, filter, slice_get, Some, ◌⊎◌, inl, inr, refl, sym, ap, ◌∙◌, subst, arith, AllPairs, append_assoc, ◌≢◌}
 use Rattle.std.specs.Bool.{Decides}
+use Rattle.std.specs.Cmp.{IsEquivalence}
 use Rattle.std.specs.List.{list_any, position_or_len}
 use Rattle.indexmap.specs.IndexSet.{insert_key}
 use Rattle.auto_core.specs.Graph.{once_each}
@@ -48,11 +49,11 @@ module _ {X : Type 0} where
   Among-filter p [] x h = absurd h
   Among-filter p (y ∷ xs) x h =
       elim (told (p y)) [
-        inl e ↦ elim (subst (λ (b : Bool). Among (cond b (y ∷ filter p xs) (filter p xs)) x) e h) [
-          inl f ↦ (inl f, subst (λ (z : X). p z ≡ true) f e)
-        | inr f ↦ let r : Among xs x × (p x ≡ true) = Among-filter p xs x f in (inr r.0, r.1)
+        | inl e ↦ elim (subst (λ (b : Bool). Among (cond b (y ∷ filter p xs) (filter p xs)) x) e h) [
+          | inl f ↦ (inl f, subst (λ (z : X). p z ≡ true) f e)
+          | inr f ↦ let r : Among xs x × (p x ≡ true) = Among-filter p xs x f in (inr r.0, r.1)
         ]
-      | inr e ↦ let r : Among xs x × (p x ≡ true) = Among-filter p xs x (subst (λ (b : Bool). Among (cond b (y ∷ filter p xs) (filter p xs)) x) e h) in (inr r.0, r.1)
+        | inr e ↦ let r : Among xs x × (p x ≡ true) = Among-filter p xs x (subst (λ (b : Bool). Among (cond b (y ∷ filter p xs) (filter p xs)) x) e h) in (inr r.0, r.1)
       ]
 
   pub Among-filter_back : (p : X → Bool) (xs : List X) (x : X) → Among xs x → p x ≡ true → Among (filter p xs) x
@@ -60,16 +61,16 @@ module _ {X : Type 0} where
   Among-filter_back p (y ∷ xs) x (inl f) e = subst (λ (b : Bool). Among (cond b (y ∷ filter p xs) (filter p xs)) x) (sym (ap p f ∙ e)) (inl f)
   Among-filter_back p (y ∷ xs) x (inr h) e =
       elim (told (p y)) [
-        inl g ↦ subst (λ (b : Bool). Among (cond b (y ∷ filter p xs) (filter p xs)) x) (sym g) (inr (Among-filter_back p xs x h e))
-      | inr g ↦ subst (λ (b : Bool). Among (cond b (y ∷ filter p xs) (filter p xs)) x) (sym g) (Among-filter_back p xs x h e)
+        | inl g ↦ subst (λ (b : Bool). Among (cond b (y ∷ filter p xs) (filter p xs)) x) (sym g) (inr (Among-filter_back p xs x h e))
+        | inr g ↦ subst (λ (b : Bool). Among (cond b (y ∷ filter p xs) (filter p xs)) x) (sym g) (Among-filter_back p xs x h e)
       ]
 
   pub filter-one : (p : X → Bool) (xs : List X) (x : X) → filter p (xs ++ x ∷ []) ≡ filter p xs ++ cond (p x) (x ∷ []) []
   filter-one p [] x = refl
   filter-one p (y ∷ xs) x =
       elim (told (p y)) [
-        inl e ↦ ap (λ (b : Bool). cond b (y ∷ filter p (xs ++ x ∷ [])) (filter p (xs ++ x ∷ []))) e ∙ ap (λ (s : List X). y ∷ s) (filter-one p xs x) ∙ ap (λ (b : Bool). cond b (y ∷ filter p xs) (filter p xs) ++ cond (p x) (x ∷ []) []) (sym e)
-      | inr e ↦ ap (λ (b : Bool). cond b (y ∷ filter p (xs ++ x ∷ [])) (filter p (xs ++ x ∷ []))) e ∙ filter-one p xs x ∙ ap (λ (b : Bool). cond b (y ∷ filter p xs) (filter p xs) ++ cond (p x) (x ∷ []) []) (sym e)
+        | inl e ↦ ap (λ (b : Bool). cond b (y ∷ filter p (xs ++ x ∷ [])) (filter p (xs ++ x ∷ []))) e ∙ ap (λ (s : List X). y ∷ s) (filter-one p xs x) ∙ ap (λ (b : Bool). cond b (y ∷ filter p xs) (filter p xs) ++ cond (p x) (x ∷ []) []) (sym e)
+        | inr e ↦ ap (λ (b : Bool). cond b (y ∷ filter p (xs ++ x ∷ [])) (filter p (xs ++ x ∷ []))) e ∙ filter-one p xs x ∙ ap (λ (b : Bool). cond b (y ∷ filter p xs) (filter p xs) ++ cond (p x) (x ∷ []) []) (sym e)
       ]
 
   pub append-nil : (xs : List X) → xs ++ [] ≡ xs
@@ -80,15 +81,16 @@ module _ {X : Type 0} where
   Apart-filter p [] h = tt
   Apart-filter p (x ∷ xs) h =
       elim (told (p x)) [
-        inl e ↦ subst (λ (b : Bool). Apart (cond b (x ∷ filter p xs) (filter p xs))) (sym e) ((λ f. h.0 (Among-filter p xs x f).0), Apart-filter p xs h.1)
-      | inr e ↦ subst (λ (b : Bool). Apart (cond b (x ∷ filter p xs) (filter p xs))) (sym e) (Apart-filter p xs h.1)
+        | inl e ↦ subst (λ (b : Bool). Apart (cond b (x ∷ filter p xs) (filter p xs))) (sym e) ((λ f. h.0 (Among-filter p xs x f).0), Apart-filter p xs h.1)
+        | inr e ↦ subst (λ (b : Bool). Apart (cond b (x ∷ filter p xs) (filter p xs))) (sym e) (Apart-filter p xs h.1)
       ]
 
   pub Apart-push : (xs : List X) (x : X) → Apart xs → (Among xs x → ⊥) → Apart (xs ++ x ∷ [])
   Apart-push [] x h out = ((λ f. f), tt)
-  Apart-push (y ∷ xs) x h out =
-      ((λ f. elim (Among-append xs (x ∷ []) y f) [ inl g ↦ h.0 g | inr g ↦ elim g [ inl e ↦ out (inl (sym e)) | inr i ↦ i ] ]),
-        Apart-push xs x h.1 (λ f. out (inr f)))
+  Apart-push (y ∷ xs) x h out = (
+    (λ f. elim (Among-append xs (x ∷ []) y f) [ inl g ↦ h.0 g | inr g ↦ elim g [ inl e ↦ out (inl (sym e)) | inr i ↦ i ] ]),
+    Apart-push xs x h.1 (λ f. out (inr f)),
+  )
 
   Among-get_or : (xs : List X) (k : ℕ) (d : X) → k < length xs → Among xs (get_or xs k d)
   Among-get_or [] k d lt = absurd (omega arith)
@@ -104,9 +106,10 @@ module _ {X : Type 0} where
 
   pub Apart-from_AllPairs : (xs : List X) → AllPairs (λ x y. x ≢ y) xs → Apart xs
   Apart-from_AllPairs [] h = tt
-  Apart-from_AllPairs (x ∷ xs) h =
-      ((λ f. apart xs x (λ j lt. h 0 (suc j) x (omega arith) (omega arith)) f),
-        Apart-from_AllPairs xs (λ i j d lt below. h (suc i) (suc j) d (omega arith) (omega arith)))
+  Apart-from_AllPairs (x ∷ xs) h = (
+    (λ f. apart xs x (λ j lt. h 0 (suc j) x (omega arith) (omega arith)) f),
+    Apart-from_AllPairs xs (λ i j d lt below. h (suc i) (suc j) d (omega arith) (omega arith)),
+  )
     where
       apart : (xs : List X) (x : X) → ((j : ℕ) → j < length xs → x ≢ get_or xs j x) → Among xs x → ⊥
       apart [] x out f = f
@@ -118,8 +121,8 @@ module _ {X : Type 0} (eq : X → X → Bool) (decides : (x y : X) → Decides (
   any-Among [] x h = absurd (true-false (sym h))
   any-Among (y ∷ xs) x h =
       elim (told (eq x y)) [
-        inl e ↦ inl (sym ((decides x y).0 e))
-      | inr e ↦ inr (any-Among xs x (sym (ap (λ (b : Bool). b || list_any (eq x) xs) e) ∙ h))
+        | inl e ↦ inl (sym ((decides x y).0 e))
+        | inr e ↦ inr (any-Among xs x (sym (ap (λ (b : Bool). b || list_any (eq x) xs) e) ∙ h))
       ]
 
   pub Among-any : (xs : List X) (x : X) → Among xs x → list_any (eq x) xs ≡ true
@@ -127,8 +130,8 @@ module _ {X : Type 0} (eq : X → X → Bool) (decides : (x y : X) → Decides (
   Among-any (y ∷ xs) x (inl e) = ap (λ (b : Bool). b || list_any (eq x) xs) ((decides x y).1 (sym e))
   Among-any (y ∷ xs) x (inr h) =
       elim (told (eq x y)) [
-        inl e ↦ ap (λ (b : Bool). b || list_any (eq x) xs) e
-      | inr e ↦ ap (λ (b : Bool). b || list_any (eq x) xs) e ∙ Among-any xs x h
+        | inl e ↦ ap (λ (b : Bool). b || list_any (eq x) xs) e
+        | inr e ↦ ap (λ (b : Bool). b || list_any (eq x) xs) e ∙ Among-any xs x h
       ]
 
   pub among_or_not : (xs : List X) (x : X) → Among xs x ⊎ (Among xs x → ⊥)
@@ -150,8 +153,8 @@ module _ {X : Type 0} (eq : X → X → Bool) (decides : (x y : X) → Decides (
   Among-once (y ∷ xs) x (inl e) = inl e
   Among-once (y ∷ xs) x (inr h) =
       elim (told (eq y x)) [
-        inl e ↦ inl ((decides y x).0 e)
-      | inr e ↦ inr (Among-filter_back (λ z. not (eq y z)) (once_each eq xs) x (Among-once xs x h) (ap not e))
+        | inl e ↦ inl ((decides y x).0 e)
+        | inr e ↦ inr (Among-filter_back (λ z. not (eq y z)) (once_each eq xs) x (Among-once xs x h) (ap not e))
       ]
 
   pub once-Among : (xs : List X) (x : X) → Among (once_each eq xs) x → Among xs x
@@ -161,9 +164,10 @@ module _ {X : Type 0} (eq : X → X → Bool) (decides : (x y : X) → Decides (
 
   pub Apart-once : (xs : List X) → Apart (once_each eq xs)
   Apart-once [] = tt
-  Apart-once (x ∷ xs) =
-      ((λ h. let p : not (eq x x) ≡ true = (Among-filter (λ z. not (eq x z)) (once_each eq xs) x h).1 in true-false (sym p ∙ ap not ((decides x x).1 refl))),
-        Apart-filter (λ z. not (eq x z)) (once_each eq xs) (Apart-once xs))
+  Apart-once (x ∷ xs) = (
+    (λ h. let p : not (eq x x) ≡ true = (Among-filter (λ z. not (eq x z)) (once_each eq xs) x h).1 in true-false (sym p ∙ ap not ((decides x x).1 refl))),
+    Apart-filter (λ z. not (eq x z)) (once_each eq xs) (Apart-once xs),
+  )
 
   -- ---- one more element
 
@@ -174,25 +178,26 @@ module _ {X : Type 0} (eq : X → X → Bool) (decides : (x y : X) → Decides (
       let rest : List X = once_each eq xs in
       let start : once_each eq (x ∷ (xs ++ y ∷ [])) ≡ x ∷ filter (λ z. not (eq x z)) (insert_key eq (once_each eq xs) y) = ap (λ (s : List X). x ∷ filter (λ z. not (eq x z)) s) (once_each-push xs y) in
       elim (among_or_not (x ∷ filter (λ z. not (eq x z)) (once_each eq xs)) y) [
-        inl h ↦ start ∙ kept x xs y h ∙ sym (insert_key-there (x ∷ filter (λ z. not (eq x z)) (once_each eq xs)) y h)
-      | inr out ↦ start ∙ added x xs y out ∙ sym (insert_key-new (x ∷ filter (λ z. not (eq x z)) (once_each eq xs)) y out)
+        | inl h ↦ start ∙ kept x xs y h ∙ sym (insert_key-there (x ∷ filter (λ z. not (eq x z)) (once_each eq xs)) y h)
+        | inr out ↦ start ∙ added x xs y out ∙ sym (insert_key-new (x ∷ filter (λ z. not (eq x z)) (once_each eq xs)) y out)
       ]
     where
       kept : (x : X) (xs : List X) (y : X) → Among (x ∷ filter (λ z. not (eq x z)) (once_each eq xs)) y → x ∷ filter (λ z. not (eq x z)) (insert_key eq (once_each eq xs) y) ≡ x ∷ filter (λ z. not (eq x z)) (once_each eq xs)
       kept x xs y h = ap (λ (s : List X). x ∷ s) (elim (among_or_not (once_each eq xs) y) [
-          inl f ↦ ap (filter (λ z. not (eq x z))) (insert_key-there (once_each eq xs) y f)
+        | inl f ↦ ap (filter (λ z. not (eq x z))) (insert_key-there (once_each eq xs) y f)
         | inr out ↦ elim h [
-            inl e ↦ ap (filter (λ z. not (eq x z))) (insert_key-new (once_each eq xs) y out) ∙ filter-one (λ z. not (eq x z)) (once_each eq xs) y
+          | inl e ↦ ap (filter (λ z. not (eq x z))) (insert_key-new (once_each eq xs) y out) ∙ filter-one (λ z. not (eq x z)) (once_each eq xs) y
               ∙ ap (λ (b : Bool). filter (λ z. not (eq x z)) (once_each eq xs) ++ cond (not b) (y ∷ []) []) ((decides x y).1 e) ∙ append-nil (filter (λ z. not (eq x z)) (once_each eq xs))
           | inr f ↦ absurd (out (Among-filter (λ z. not (eq x z)) (once_each eq xs) y f).0)
-          ]
-        ])
+        ]
+      ])
+
       added : (x : X) (xs : List X) (y : X) → (Among (x ∷ filter (λ z. not (eq x z)) (once_each eq xs)) y → ⊥) → x ∷ filter (λ z. not (eq x z)) (insert_key eq (once_each eq xs) y) ≡ (x ∷ filter (λ z. not (eq x z)) (once_each eq xs)) ++ y ∷ []
       added x xs y out =
           let other : not (eq x y) ≡ true = not_eq x y (λ e. out (inl e)) in
           let absent : Among (once_each eq xs) y → ⊥ = λ f. out (inr (Among-filter_back (λ z. not (eq x z)) (once_each eq xs) y f other)) in
           ap (λ (s : List X). x ∷ s) (ap (filter (λ z. not (eq x z))) (insert_key-new (once_each eq xs) y absent) ∙ filter-one (λ z. not (eq x z)) (once_each eq xs) y
-            ∙ ap (λ (b : Bool). filter (λ z. not (eq x z)) (once_each eq xs) ++ cond b (y ∷ []) []) other)
+          ∙ ap (λ (b : Bool). filter (λ z. not (eq x z)) (once_each eq xs) ++ cond b (y ∷ []) []) other)
 
   -- ---- places
 
@@ -206,11 +211,11 @@ module _ {X : Type 0} (eq : X → X → Bool) (decides : (x y : X) → Decides (
   position-Among [] x h = absurd h
   position-Among (y ∷ xs) x h =
       elim (told (eq x y)) [
-        inl e ↦ (let f = place-here y x xs e in omega arith, ap (slice_get (y ∷ xs)) (place-here y x xs e) ∙ ap (λ (z : X). Some z) (sym ((decides x y).0 e)))
-      | inr e ↦ elim h [
-          inl f ↦ absurd (true-false (sym ((decides x y).1 (sym f)) ∙ e))
-        | inr f ↦ let r : (position_or_len (eq x) xs < length xs) × (slice_get xs (position_or_len (eq x) xs) ≡ Some x) = position-Among xs x f in
-          (let g = place-next y x xs e in omega (arith, r.0), ap (slice_get (y ∷ xs)) (place-next y x xs e) ∙ r.1)
+        | inl e ↦ (let f = place-here y x xs e in omega arith, ap (slice_get (y ∷ xs)) (place-here y x xs e) ∙ ap (λ (z : X). Some z) (sym ((decides x y).0 e)))
+        | inr e ↦ elim h [
+          | inl f ↦ absurd (true-false (sym ((decides x y).1 (sym f)) ∙ e))
+          | inr f ↦ let r : (position_or_len (eq x) xs < length xs) × (slice_get xs (position_or_len (eq x) xs) ≡ Some x) = position-Among xs x f in
+              (let g = place-next y x xs e in omega (arith, r.0), ap (slice_get (y ∷ xs)) (place-next y x xs e) ∙ r.1)
         ]
       ]
 
@@ -218,18 +223,18 @@ module _ {X : Type 0} (eq : X → X → Bool) (decides : (x y : X) → Decides (
   position-absent [] x out = refl
   position-absent (y ∷ xs) x out =
       elim (told (eq x y)) [
-        inl e ↦ absurd (out (inl (sym ((decides x y).0 e))))
-      | inr e ↦ place-next y x xs e ∙ ap suc (position-absent xs x (λ f. out (inr f)))
+        | inl e ↦ absurd (out (inl (sym ((decides x y).0 e))))
+        | inr e ↦ place-next y x xs e ∙ ap suc (position-absent xs x (λ f. out (inr f)))
       ]
 
   pub position-more : (xs ys : List X) (x : X) → Among xs x → position_or_len (eq x) (xs ++ ys) ≡ position_or_len (eq x) xs
   position-more [] ys x h = absurd h
   position-more (y ∷ xs) ys x h =
       elim (told (eq x y)) [
-        inl e ↦ place-here y x (xs ++ ys) e ∙ sym (place-here y x xs e)
-      | inr e ↦ elim h [
-          inl f ↦ absurd (true-false (sym ((decides x y).1 (sym f)) ∙ e))
-        | inr f ↦ place-next y x (xs ++ ys) e ∙ ap suc (position-more xs ys x f) ∙ sym (place-next y x xs e)
+        | inl e ↦ place-here y x (xs ++ ys) e ∙ sym (place-here y x xs e)
+        | inr e ↦ elim h [
+          | inl f ↦ absurd (true-false (sym ((decides x y).1 (sym f)) ∙ e))
+          | inr f ↦ place-next y x (xs ++ ys) e ∙ ap suc (position-more xs ys x f) ∙ sym (place-next y x xs e)
         ]
       ]
 
@@ -237,14 +242,18 @@ module _ {X : Type 0} (eq : X → X → Bool) (decides : (x y : X) → Decides (
   pub position-inserted : (xs : List X) (x : X) → position_or_len (eq x) (insert_key eq xs x) ≡ position_or_len (eq x) xs
   position-inserted xs x =
       elim (among_or_not xs x) [
-        inl h ↦ ap (position_or_len (eq x)) (insert_key-there xs x h)
-      | inr out ↦ ap (position_or_len (eq x)) (insert_key-new xs x out) ∙ at_end xs x out
+        | inl h ↦ ap (position_or_len (eq x)) (insert_key-there xs x h)
+        | inr out ↦ ap (position_or_len (eq x)) (insert_key-new xs x out) ∙ at_end xs x out
       ]
     where
       at_end : (xs : List X) (x : X) → (Among xs x → ⊥) → position_or_len (eq x) (xs ++ x ∷ []) ≡ position_or_len (eq x) xs
       at_end [] x out = place-here x x [] ((decides x x).1 refl)
       at_end (y ∷ xs) x out =
           elim (told (eq x y)) [
-            inl e ↦ absurd (out (inl (sym ((decides x y).0 e))))
-          | inr e ↦ place-next y x (xs ++ x ∷ []) e ∙ ap suc (at_end xs x (λ f. out (inr f))) ∙ sym (place-next y x xs e)
+            | inl e ↦ absurd (out (inl (sym ((decides x y).0 e))))
+            | inr e ↦ place-next y x (xs ++ x ∷ []) e ∙ ap suc (at_end xs x (λ f. out (inr f))) ∙ sym (place-next y x xs e)
           ]
+
+-- a test that answers true at equal values only, and meets the laws of `==`, decides them
+pub decides_by : {X : Type 0} (eq : X → X → Bool) → IsEquivalence eq → ((x y : X) → eq x y ≡ true → x ≡ y) → (x y : X) → Decides (eq x y) (x ≡ y)
+decides_by eq laws same x y = (same x y, λ e. subst (λ (z : _). eq x z ≡ true) e (laws.refl x))

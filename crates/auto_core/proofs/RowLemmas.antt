@@ -62,10 +62,11 @@ pub row_facts : (rows : List Row) (edges : List Edge) (g : Graph) (view : view_o
     → n < length g.accepting → row ≡ get_or rows n row → HasEdgesOf g.edges n row × (row.accepts ≡ get_or g.accepting n false)
 row_facts rows edges g view filed n row lt is =
     let states : length g.accepting ≡ length rows = states-view rows edges g view in
-    let below : n < length rows = omega arith in
-    (subst (λ (s : List Edge). HasEdgesOf s n row) (edges-view rows edges g view)
-        (filed.rows_there n row (slice_get_read rows (length rows) n row refl below is)),
-      ap (λ (r : Row). r.accepts) is ∙ sym (get_or-map (λ (r : Row). r.accepts) rows n row false below) ∙ ap (λ (h : Graph). get_or h.accepting n false) view)
+    let below : n < length rows = omega arith in (
+      subst (λ (s : List Edge). HasEdgesOf s n row) (edges-view rows edges g view)
+          (filed.rows_there n row (slice_get_read rows (length rows) n row refl below is)),
+      ap (λ (r : Row). r.accepts) is ∙ sym (get_or-map (λ (r : Row). r.accepts) rows n row false below) ∙ ap (λ (h : Graph). get_or h.accepting n false) view,
+    )
 
 -- what `Table::edges` ensures
 pub between-view : (rows : List Row) (edges : List Edge) (g : Graph) (view : view_of rows edges ≡ g) (filed : IsFiled rows edges) (shown : List Edge) → shown ≡ edges
@@ -74,7 +75,7 @@ between-view rows edges g view filed shown same =
     let states : length g.accepting ≡ length rows = states-view rows edges g view in
     All-same (λ (e : Edge). e.from < length g.accepting × e.to < length g.accepting) shown edges same
     (All-weaker (λ (e : Edge). e.from < length rows × e.to < length rows) (λ (e : Edge). e.from < length g.accepting × e.to < length g.accepting)
-        (λ e h. (omega (arith, h.0), omega (arith, h.1))) edges filed.between)
+    (λ e h. (omega (arith, h.0), omega (arith, h.1))) edges filed.between)
 
 -- the edge that `Table::edge` finds
 pub edge_facts : (g : Graph) (n place : ℕ) (row : Row) (edges : List Edge) (edge : Edge) → HasEdgesOf g.edges n row → edges ≡ g.edges → place < length (edges_from n g.edges)

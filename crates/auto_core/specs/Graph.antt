@@ -3,6 +3,7 @@ use Rattle.std.specs.Prelude.{◌≡◌, ℕ, suc, ◌<◌, Bool, true, false, n
 use Rattle.std.specs.List.{position_or_len}
 use Rattle.auto_core.specs.declared.labels.Literal.{Literal}
 use Rattle.auto_core.specs.declared.tables.Edge.{Edge}
+use Rattle.auto_core.specs.LiteralSets.{same_label}
 use Rattle.auto_core.specs.Machine.{Machine, Letter, AcceptsFrom}
 
 -- which of the states 0, 1, and so on accept, and all edges
@@ -13,6 +14,10 @@ pub record Graph : Type 0 where
 -- the edges that leave the n-th state, each with its label and the state that it leads to
 abbrev pub edges_from : ℕ → List Edge → List (List Literal × ℕ)
 edges_from n edges = map (λ e. (e.label, e.to)) (filter (λ e. e.from == n) edges)
+
+-- whether two edges have the same ends and the same literals
+abbrev pub same_edge : Edge → Edge → Bool
+same_edge a b = (a.from == b.from) && (same_label a.label b.label && (a.to == b.to))
 
 -- the automaton that a table is: it starts in state 0
 abbrev pub graph_machine : Graph → Machine ℕ
@@ -56,7 +61,7 @@ abbrev pub numbered : {S : Type 0} → (S → S → Bool) → List S → Step S 
 numbered eq names step = record { from = step.from; label = step.label; to = position_or_len (eq step.to) names }
 
 -- The table is the automaton's graph as far as it is reached, when state n is called by the n-th of the names.
-pub record IsGraphOf {S : Type 0} (eq : S → S → Bool) (same_edge : Edge → Edge → Bool) (own : S → Type 0) (m : Machine S) (names : List S) (g : Graph) : Type 0 where
+pub record IsGraphOf {S : Type 0} (eq : S → S → Bool) (own : S → Type 0) (m : Machine S) (names : List S) (g : Graph) : Type 0 where
   -- the names are the start and then the targets of the named states' edges in order, each at its first place only
   pub named : names ≡ once_each eq (m.start ∷ map (λ e. e.to) (steps_from m 0 names))
   pub different : AllPairs (λ s t. s ≢ t) names

@@ -1,3 +1,4 @@
+pub mod Exploring
 pub mod Graph
 pub mod LiteralSets
 pub mod Machine

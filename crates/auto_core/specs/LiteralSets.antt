@@ -1,6 +1,8 @@
 -- Sets of literals, each as the list of its members in order: by symbol, and of one symbol the negative literal first.
 use Rattle.std.specs.Prelude.{◌≡◌, ℕ, ◌<◌, Bool, true, false, not, cond, ◌&&◌, ◌||◌, ◌==◌, nat_lt, List, [], ◌∷◌}
 use Rattle.std.specs.List.{AllByRecursion}
+use Rattle.std.specs.Bool.{beq}
+use Rattle.std.specs.Cmp.Lexicographic.{pointwise}
 use Rattle.auto_core.specs.declared.labels.Literal.{Literal}
 
 -- whether a stands before b in a label
@@ -21,3 +23,10 @@ put_literal l (m ∷ ms) = cond (precedes l m) (l ∷ m ∷ ms) (cond (precedes 
 abbrev pub put_all : List Literal → List Literal → List Literal
 put_all [] ms = ms
 put_all (l ∷ ls) ms = put_all ls (put_literal l ms)
+
+-- whether two literals have the same symbol and sign, and two sets the same literals
+abbrev pub same_literal : Literal → Literal → Bool
+same_literal a b = (a.symbol == b.symbol) && beq a.positive b.positive
+
+abbrev pub same_label : List Literal → List Literal → Bool
+same_label = pointwise same_literal

@@ -2,9 +2,11 @@
 #![tactic(auto)]
 
 mod automaton;
+mod exploring;
 mod labels;
 mod tables;
 
 pub use automaton::Auto;
+pub use exploring::{TableError, materialise};
 pub use labels::{Label, Literal};
 pub use tables::{Edge, Table};

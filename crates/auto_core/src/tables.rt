@@ -1,11 +1,11 @@
 //! Automata that are stored whole.
 
-ghost use Rattle.std.specs.Prelude.{◌≡◌, ◌+◌, ◌<◌, ◌==◌, false, Some, All, Contains, length, filter, slice_get, slice_index_or};
+ghost use Rattle.std.specs.Prelude.{◌≡◌, ◌+◌, ◌<◌, ◌==◌, false, Some, All, Contains, length, filter, map, slice_get, slice_index_or};
 ghost use Rattle.std.proofs.Common.{arith};
 ghost use Rattle.std.proofs.lemmas.Bool.Decides.{nat_tests};
 ghost use Rattle.auto_core.specs.LiteralSets.{IsLabel};
 ghost use Rattle.auto_core.specs.Graph.{graph_machine, edges_from};
-ghost use Rattle.auto_core.specs.Rows.{HasEdgesOf};
+ghost use Rattle.auto_core.specs.Rows.{HasEdgesOf, IsFiled};
 
 use crate::automaton::Auto;
 use crate::labels::Label;
@@ -23,10 +23,10 @@ pub struct Edge {
 
 /// A state of a table: whether it accepts, and where its edges stand among all.
 #[derive(Clone, Copy, Debug)]
-struct Row {
-    accepts: bool,
-    first: usize,
-    end: usize,
+pub(crate) struct Row {
+    pub(crate) accepts: bool,
+    pub(crate) first: usize,
+    pub(crate) end: usize,
 }
 
 /// An automaton whose states are the numbers below `states`, of which 0 is the start.
@@ -67,6 +67,14 @@ impl Table {
 }
 
 impl Table {
+    pub(crate) fn from_rows(rows: Vec<Row>, edges: IndexSet<Edge>) -> Table
+        requires { IsFiled rows.items edges.keys }
+        ensures accepting { result.accepting ≡ map (λ r. r.accepts) rows.items }
+        ensures edges { result.edges ≡ edges.keys }
+    {
+        Table { rows, edges }
+    }
+
     fn row(&self, state: u32) -> Row
         requires { state < length self.now.accepting }
         ensures edges { HasEdgesOf self.now.edges state result }
