@@ -1,9 +1,21 @@
 //! The edges of a state that lead to a state that accepts.
 
-ghost use Rattle.std.specs.Prelude.{◌≡◌, ◌<◌, length, slice_get};
+ghost use Rattle.std.specs.Prelude.{◌≡◌, ◌<◌, List, Some, length, slice_get};
+ghost use Rattle.auto_core.specs.declared.labels.Literal.{Literal};
 ghost use Rattle.automata_product.specs.Fuse.{last_edges};
 
 use auto_core::Auto;
+
+// Whether the edge at this place leads to a state that accepts.
+fn is_last<A: Auto>(inner: &A, state: A::State, place: usize) -> bool
+    requires fit { A.fits inner.now }
+    requires owned { A.own inner.now state }
+    requires there { place < length ((A.machine inner.now).edges state) }
+    ensures { (label : List Literal) × (next : A.State) × (slice_get ((A.machine inner.now).edges state) place ≡ Some (label, next)) × (result ≡ (A.machine inner.now).accepts next) }
+{
+    let next = inner.target(state, place);
+    inner.accepts(next)
+}
 
 // How many of the state's edges lead to a state that accepts.
 pub fn last_count<A: Auto>(inner: &A, state: A::State) -> usize
@@ -13,7 +25,7 @@ pub fn last_count<A: Auto>(inner: &A, state: A::State) -> usize
 {
     let mut count = 0;
     for place in 0..inner.edge_count(state) {
-        if inner.accepts(inner.target(state, place)) {
+        if is_last(inner, state, place) {
             count += 1;
         }
     }
@@ -30,7 +42,7 @@ pub fn last_place<A: Auto>(inner: &A, state: A::State, rank: usize) -> usize
 {
     let mut seen = 0;
     for place in 0..inner.edge_count(state) {
-        if inner.accepts(inner.target(state, place)) {
+        if is_last(inner, state, place) {
             if seen == rank {
                 return place;
             }

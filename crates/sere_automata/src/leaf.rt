@@ -59,6 +59,7 @@ impl Auto for Leaf {
         _place: usize,
         onto: &mut Label,
     ) -> Result<(), AllocError> {
+        let _ordered = self.label.literals();
         onto.put_all(&self.label)
     }
 
