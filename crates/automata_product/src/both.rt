@@ -18,8 +18,7 @@ pub struct Both<A, B> {
 impl<A: Auto, B: Auto> Both<A, B> {
     /// Both of the two automata.
     pub fn new(left: A, right: B) -> Both<A, B>
-        ensures left { result.left ≡ left }
-        ensures right { result.right ≡ right }
+        ensures made { result ≡ record { left = left; right = right } }
         ensures words { (w : List Letter) → Accepts (⟦<Both<A, B> as Auto>⟧.machine result) w ↔ (Accepts (A.machine left) w × Accepts (B.machine right) w) }
     {
         Both { left, right }

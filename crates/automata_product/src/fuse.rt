@@ -25,8 +25,7 @@ pub struct Fuse<A, B> {
 impl<A: Auto, B: Auto> Fuse<A, B> {
     /// The fusion of the two automata.
     pub fn new(left: A, right: B) -> Fuse<A, B>
-        ensures left { result.left ≡ left }
-        ensures right { result.right ≡ right }
+        ensures made { result ≡ record { left = left; right = right } }
         ensures words { (w : List Letter) → Accepts (⟦<Fuse<A, B> as Auto>⟧.machine result) w ↔ IsFusion (Accepts (A.machine left)) (Accepts (B.machine right)) w }
     {
         Fuse { left, right }

@@ -24,8 +24,7 @@ pub struct Concat<A, B> {
 impl<A: Auto, B: Auto> Concat<A, B> {
     /// The one automaton after the other.
     pub fn new(left: A, right: B) -> Concat<A, B>
-        ensures left { result.left ≡ left }
-        ensures right { result.right ≡ right }
+        ensures made { result ≡ record { left = left; right = right } }
         ensures words { (w : List Letter) → Accepts (⟦<Concat<A, B> as Auto>⟧.machine result) w ↔ IsConcatenation (Accepts (A.machine left)) (Accepts (B.machine right)) w }
     {
         Concat { left, right }

@@ -18,7 +18,7 @@ pub struct Leaf {
 impl Leaf {
     /// The automaton of one step with this label.
     pub fn new(label: Label) -> Leaf
-        ensures label { result.label ≡ label }
+        ensures made { result ≡ record { label = label } }
         ensures words { (w : List Letter) → Accepts (⟦<Leaf as Auto>⟧.machine result) w ↔ ((a : Letter) × (w ≡ a ∷ []) × Passes label a) }
     {
         Leaf { label }

@@ -23,8 +23,7 @@ pub struct OneOf<A, B> {
 impl<A: Auto, B: Auto> OneOf<A, B> {
     /// The choice between the two automata.
     pub fn new(left: A, right: B) -> OneOf<A, B>
-        ensures left { result.left ≡ left }
-        ensures right { result.right ≡ right }
+        ensures made { result ≡ record { left = left; right = right } }
         ensures words { (w : List Letter) → Accepts (⟦<OneOf<A, B> as Auto>⟧.machine result) w ↔ (Accepts (A.machine left) w ⊎ Accepts (B.machine right) w) }
     {
         OneOf { left, right }

@@ -23,7 +23,7 @@ pub struct Repeat<A> {
 impl<A: Auto> Repeat<A> {
     /// The automaton any number of times.
     pub fn new(inner: A) -> Repeat<A>
-        ensures inner { result.inner ≡ inner }
+        ensures made { result ≡ record { inner = inner } }
         ensures words { (w : List Letter) → Accepts (⟦<Repeat<A> as Auto>⟧.machine result) w ↔ IsRepetition (Accepts (A.machine inner)) w }
     {
         Repeat { inner }
