@@ -4,3 +4,4 @@ pub mod OneOfWords
 pub mod RepeatWords
 pub mod Follow
 pub mod LeafPlaces
+pub mod Small
