@@ -2,6 +2,7 @@ pub mod ExploreAll
 pub mod ExploreState
 pub mod LabelLemmas
 pub mod LabelOrder
+pub mod Marking
 pub mod Members
 pub mod Once
 pub mod PutSearch

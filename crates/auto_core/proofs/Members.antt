@@ -1,12 +1,9 @@
 -- Membership by recursion on the list, for proofs, and its two sides of `Contains`.
 use Rattle.std.proofs.Common.{◌≡◌, ℕ, zero, suc, ◌+◌, ◌<◌, List, [], ◌∷◌, ◌++◌, length, get_or, map, Contains, ◌⊎◌, ◌↔◌, inl, inr, refl, sym, ap, ◌∙◌, subst, arith, add-one}
 use Rattle.std.specs.List.{AllByRecursion}
+pub use Rattle.auto_core.specs.Among.{Among}
 
 module _ {X : Type 0} where
-  abbrev pub Among : List X → X → Type 0
-  Among [] x = ⊥
-  Among (y ∷ ys) x = (y ≡ x) ⊎ Among ys x
-
   pub Contains-from_Among : (xs : List X) (x : X) → Among xs x → Contains xs x
   Contains-from_Among [] x h = absurd h
   Contains-from_Among (y ∷ ys) x (inl e) = (0, omega arith, e)
