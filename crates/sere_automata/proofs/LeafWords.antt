@@ -16,11 +16,12 @@ module _ (label : List Literal) where
   to_leaf [] h = absurd (cc)
   to_leaf (a ∷ w) h =
       elim (among ((label, End) ∷ []) (h.0, h.1) h.2) [
-        inl e ↦
-          (a,
-           ap (λ v. a ∷ v) (from_end w (subst (λ t. AcceptsFrom (leaf_machine label) t w) (sym (ap (λ x. x.1) e)) h.4)),
-           subst (λ l. Passes l a) (sym (ap (λ x. x.0) e)) h.3)
-      | inr k ↦ absurd k
+        | inl e ↦ (
+          a,
+          ap (λ v. a ∷ v) (from_end w (subst (λ t. AcceptsFrom (leaf_machine label) t w) (sym (ap (λ x. x.1) e)) h.4)),
+          subst (λ l. Passes l a) (sym (ap (λ x. x.0) e)) h.3,
+        )
+        | inr k ↦ absurd k
       ]
 
   leaf_from : (a : Letter) → Passes label a → Accepts (leaf_machine label) (a ∷ [])
@@ -28,6 +29,7 @@ module _ (label : List Literal) where
 
   -- the lists of one letter that passes the label, and no others
   pub leaf_words : (w : List Letter) → Accepts (leaf_machine label) w ↔ ((a : Letter) × (w ≡ a ∷ []) × Passes label a)
-  leaf_words w =
-      ((λ h. to_leaf w h),
-       (λ (a, e, h). subst (λ w. Accepts (leaf_machine label) w) (sym e) (leaf_from a h)))
+  leaf_words w = (
+    (λ h. to_leaf w h),
+    (λ (a, e, h). subst (λ w. Accepts (leaf_machine label) w) (sym e) (leaf_from a h)),
+  )

@@ -53,12 +53,7 @@ impl Auto for Leaf {
         LeafState::End
     }
 
-    fn label(
-        &self,
-        _state: LeafState,
-        _place: usize,
-        onto: &mut Label,
-    ) -> Result<(), AllocError> {
+    fn label(&self, _state: LeafState, _place: usize, onto: &mut Label) -> Result<(), AllocError> {
         let _ordered = self.label.literals();
         onto.put_all(&self.label)
     }
