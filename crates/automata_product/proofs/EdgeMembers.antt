@@ -1,5 +1,5 @@
 -- Membership in the products of edges, and what a joined_edge label passes.
-use Rattle.std.proofs.Common.{◌≡◌, Option, Some, None, List, [], ◌∷◌, ◌++◌, map, Contains, refl, subst}
+use Rattle.std.proofs.Common.{◌≡◌, List, map, Contains}
 use Rattle.auto_core.specs.declared.labels.Literal.{Literal}
 use Rattle.automata_product.specs.Edges.{joined_edge, products}
 use Rattle.automata_product.proofs.Members.{contains-map, contains-map_cases, contains-flat_map, contains-flat_map_cases}

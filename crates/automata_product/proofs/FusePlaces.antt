@@ -23,13 +23,13 @@ module _ {S T : Type 0} (m : Machine S) (n : Machine T) (p : S) where
   pub joint_leads : (s : T) (c k : ℕ) (q : T) → s ≡ n.start → c ≡ length (n.edges s) → k < length (joint_edges m n p) → LeadsTo (n.edges s) (k % c) q → LeadsTo (joint_edges m n p) k (Right q)
   joint_leads s c k q e h within l =
       leads-column (λ q. Right q) (last_edges m p) (n.edges n.start) k c q (at_start s c e h) within
-        (subst (λ t. LeadsTo (n.edges t) (k % c) q) e l)
+      (subst (λ t. LeadsTo (n.edges t) (k % c) q) e l)
 
   pub joint_puts : (s : T) (c k last : ℕ) (old mid new : List Literal) → s ≡ n.start → c ≡ length (n.edges s) → 0 < c → slice_get (m.edges p) last ≡ slice_get (last_edges m p) (k / c) → PutsEdge (m.edges p) last old mid → PutsEdge (n.edges s) (k % c) mid new → PutsEdge (joint_edges m n p) k old new
   joint_puts s c k last old mid new e h some same first second =
       puts-split (λ last q. Right q) (last_edges m p) (n.edges n.start) k c old mid new (at_start s c e h) some
-        (puts-same (m.edges p) (last_edges m p) last (k / c) old mid same first)
-        (subst (λ t. PutsEdge (n.edges t) (k % c) mid new) e second)
+      (puts-same (m.edges p) (last_edges m p) last (k / c) old mid same first)
+      (subst (λ t. PutsEdge (n.edges t) (k % c) mid new) e second)
 
   pub fuse_count : (s : T) (a b c : ℕ) → a ≡ length (m.edges p) → b ≡ length (last_edges m p) → s ≡ n.start → c ≡ length (n.edges s) → a + b * c ≡ length (fuse_edges m n (Left p))
   fuse_count s a b c own lasts e h =
@@ -44,4 +44,4 @@ module _ {S T : Type 0} (m : Machine S) (n : Machine T) (p : S) where
   pub after_left_puts : (k j a : ℕ) (old new : List Literal) → a ≡ length (m.edges p) → k ≡ a + j → PutsEdge (joint_edges m n p) j old new → PutsEdge (fuse_edges m n (Left p)) k old new
   after_left_puts k j a old new own e h =
       puts-right (map (renamed Left) (m.edges p)) (joint_edges m n p) j k old new
-        (e ∙ ap (λ i. i + j) (own ∙ sym (length-map (m.edges p) (renamed Left)))) h
+      (e ∙ ap (λ i. i + j) (own ∙ sym (length-map (m.edges p) (renamed Left)))) h

@@ -1,5 +1,5 @@
 -- Membership in the lists of edges that the machines are made of.
-use Rattle.std.proofs.Common.{◌≡◌, ℕ, zero, suc, ◌<◌, Bool, true, false, cond, List, [], ◌∷◌, ◌++◌, map, flat_map, filter, length, Contains, get_or, inl, inr, ◌⊎◌, refl, sym, ap, subst, arith, rules}
+use Rattle.std.proofs.Common.{◌≡◌, ℕ, zero, suc, ◌<◌, Bool, true, false, cond, List, [], ◌∷◌, map, flat_map, filter, length, Contains, get_or, inl, inr, ◌⊎◌, refl, sym, ap, subst, arith}
 use Rattle.std.proofs.lemmas.List.Elements.{Contains-append_left, Contains-append_right, Contains-append_cases}
 
 -- membership by recursion on the list
@@ -50,8 +50,8 @@ flat_map_cases : {X Y : Type 0} (f : X → List Y) (xs : List X) (y : Y) → Con
 flat_map_cases f [] y h = absurd (among [] y h)
 flat_map_cases {X} {Y} f (x ∷ xs) y h =
     elim (Contains-append_cases (f x) (flat_map f xs) y h) [
-      inl k ↦ (x, inl refl, k)
-    | inr k ↦ let r = flat_map_cases f xs y k in (r.0, inr r.1, r.2)
+      | inl k ↦ (x, inl refl, k)
+      | inr k ↦ let r = flat_map_cases f xs y k in (r.0, inr r.1, r.2)
     ]
 
 pub contains-flat_map_cases : {X Y : Type 0} (f : X → List Y) (xs : List X) (y : Y) → Contains (flat_map f xs) y → (x : X) × Contains xs x × Contains (f x) y
@@ -63,8 +63,8 @@ among_filter p [] x h t = h
 among_filter p (y ∷ ys) x (inl e) t = rw (ap p e, t) (inl e)
 among_filter p (y ∷ ys) x (inr h) t =
     elim (p y) as (λ b. Among (cond b (y ∷ filter p ys) (filter p ys)) x) [
-      true ↦ inr (among_filter p ys x h t)
-    | false ↦ among_filter p ys x h t
+      | true ↦ inr (among_filter p ys x h t)
+      | false ↦ among_filter p ys x h t
     ]
 
 pub contains-filter : {X : Type 0} (p : X → Bool) (xs : List X) (x : X) → Contains xs x → p x ≡ true → Contains (filter p xs) x

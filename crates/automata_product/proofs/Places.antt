@@ -1,5 +1,5 @@
 -- Which edge stands at a place of the lists of edges that the machines are made of.
-use Rattle.std.proofs.Common.{◌≡◌, ℕ, zero, suc, ◌+◌, ◌-◌, ◌*◌, ◌/◌, ◌%◌, ◌<◌, ◌≤◌, Bool, true, false, cond, Option, Some, None, List, [], ◌∷◌, ◌++◌, map, flat_map, filter, length, slice_get, take, refl, sym, ap, ◌∙◌, subst, arith}
+use Rattle.std.proofs.Common.{◌≡◌, ℕ, zero, suc, ◌+◌, ◌*◌, ◌/◌, ◌%◌, ◌<◌, Some, List, [], ◌∷◌, ◌++◌, map, length, slice_get, refl, sym, ap, ◌∙◌, subst, arith}
 use Rattle.std.proofs.lemmas.List.{length-map}
 use Rattle.std.proofs.Common.{length-append}
 use Rattle.std.proofs.Math.Nat.{div-lt_iff_lt-mul}
@@ -37,11 +37,11 @@ get-products f (z ∷ zs) ys zero j k x y e h l =
     let place : j ≡ k = omega arith in
     let there : slice_get (map (λ y. joined_edge f z y) ys) j ≡ Some (joined_edge f x y) = here ∙ ap (λ w. Some (joined_edge f w y)) same in
     get-append_left (map (λ y. joined_edge f z y) ys) (products f zs ys) k (joined_edge f x y)
-      (subst (λ n. slice_get (map (λ y. joined_edge f z y) ys) n ≡ Some (joined_edge f x y)) place there)
+    (subst (λ n. slice_get (map (λ y. joined_edge f z y) ys) n ≡ Some (joined_edge f x y)) place there)
 get-products f (z ∷ zs) ys (suc i) j k x y e h l =
     get-append_right (map (λ y. joined_edge f z y) ys) (products f zs ys) (i * length ys + j) k (joined_edge f x y)
-      (omega (arith, length-map ys (λ y. joined_edge f z y)))
-      (get-products f zs ys i j (i * length ys + j) x y refl h l)
+    (omega (arith, length-map ys (λ y. joined_edge f z y)))
+    (get-products f zs ys i j (i * length ys + j) x y refl h l)
 
 some_right : (m n k : ℕ) → k < m * n → 0 < n
 some_right m zero k h = absurd (omega arith)

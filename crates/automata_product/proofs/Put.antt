@@ -2,10 +2,10 @@
 use Rattle.std.proofs.Common.{◌≡◌, ◌↔◌, ℕ, zero, suc, [], ◌∷◌, arith, ◌+◌, ◌*◌, ◌/◌, ◌%◌, ◌<◌, Some, List, ◌++◌, map, length, slice_get, Result, OnOk, refl, sym, ap, ◌∙◌, subst}
 use Rattle.std.proofs.lemmas.Result.{on_ok_weaker}
 use Rattle.auto_core.specs.declared.labels.Literal.{Literal}
-use Rattle.auto_core.specs.LiteralSets.{IsLabel, put_all}
+use Rattle.auto_core.specs.LiteralSets.{put_all}
 use Rattle.auto_core.specs.Machine.{Letter, Passes}
 use Rattle.auto_core.proofs.LabelLemmas.{IsLabel-put_all, Passes-put_all}
-use Rattle.automata_product.specs.Edges.{renamed, joined_edge, products, LeadsTo, PutsEdge}
+use Rattle.automata_product.specs.Edges.{renamed, products, LeadsTo, PutsEdge}
 use Rattle.automata_product.proofs.Places.{get-map, get-append_left, get-append_right, get-products, place_split, place_within}
 use Rattle.automata_product.proofs.Union.{put_union}
 
@@ -56,11 +56,13 @@ module _ {S T U : Type 0} (f : S → T → U) (xs : List (List Literal × S)) (y
   leads-products i j k p q e h l = (put_all l.0 h.0, get-products f xs ys i j k (h.0, p) (l.0, q) e h.1 l.1)
 
   pub puts-products : (i j k : ℕ) (old mid new : List Literal) → k ≡ i * length ys + j → PutsEdge xs i old mid → PutsEdge ys j mid new → PutsEdge (products f xs ys) k old new
-  puts-products i j k old mid new e h l =
-      (put_all l.0 h.0, f h.1 l.1,
-       get-products f xs ys i j k (h.0, h.1) (l.0, l.1) e h.2 l.2,
-       IsLabel-put_all l.0 h.0 h.3,
-       l.4 ∙ ap (λ s. put_all l.0 s) h.4 ∙ sym (put_union l.0 h.0 old))
+  puts-products i j k old mid new e h l = (
+    put_all l.0 h.0,
+    f h.1 l.1,
+    get-products f xs ys i j k (h.0, h.1) (l.0, l.1) e h.2 l.2,
+    IsLabel-put_all l.0 h.0 h.3,
+    l.4 ∙ ap (λ s. put_all l.0 s) h.4 ∙ sym (put_union l.0 h.0 old),
+  )
 
   pub leads-split : (k n : ℕ) (p : S) (q : T) → n ≡ length ys → 0 < n → LeadsTo xs (k / n) p → LeadsTo ys (k % n) q → LeadsTo (products f xs ys) k (f p q)
   leads-split k n p q e some h l =

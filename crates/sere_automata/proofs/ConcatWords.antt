@@ -1,15 +1,13 @@
 -- The machine of a concatenation accepts the concatenations.
-use Rattle.std.proofs.Common.{◌≡◌, ◌↔◌, ◌&&◌, Bool, true, false, cond, IsTrue, List, [], ◌∷◌, ◌++◌, map, Contains, inl, inr, refl, sym, ap, subst}
+use Rattle.std.proofs.Common.{◌↔◌, Bool, true, false, cond, IsTrue, List, [], ◌∷◌, ◌++◌, map, Contains, inl, inr, refl, sym, ap, subst}
 use Rattle.std.proofs.lemmas.List.Elements.{Contains-append_left, Contains-append_right, Contains-append_cases}
-use Rattle.auto_core.specs.declared.labels.Literal.{Literal}
 use Rattle.auto_core.specs.Machine.{Letter, Passes, Machine, AcceptsFrom, Accepts}
 use Rattle.auto_core.specs.Splits.{IsConcatenation}
-use Rattle.automata_product.specs.declared.side.Side.{Side}
 use Rattle.automata_product.specs.declared.side.Side.TheVariants.{Left, Right}
 use Rattle.automata_product.specs.Edges.{renamed}
 use Rattle.automata_product.proofs.Members.{among, contains-map, contains-map_cases}
 use Rattle.automata_product.proofs.BothWords.{and_intro, and_left, and_right}
-use Rattle.sere_automata.specs.Concat.{concat_machine, concat_edges}
+use Rattle.sere_automata.specs.Concat.{concat_machine}
 
 -- what a list that is there only on a condition holds
 pub contains-if : {X : Type 0} (b : Bool) (xs : List X) (x : X) → IsTrue b → Contains xs x → Contains (cond b xs []) x

@@ -1,5 +1,5 @@
 -- The edges of a state, and on a condition after them the first edges of what follows, by their places.
-use Rattle.std.proofs.Common.{◌≡◌, ℕ, ◌+◌, ◌-◌, ◌<◌, ◌≤◌, Bool, true, false, cond, List, [], ◌++◌, map, length, refl, sym, ap, ◌∙◌, arith, length-append}
+use Rattle.std.proofs.Common.{◌≡◌, ℕ, ◌+◌, ◌-◌, ◌<◌, ◌≤◌, Bool, true, false, cond, List, [], ◌++◌, map, length, refl, arith, length-append}
 use Rattle.std.proofs.lemmas.List.{length-map}
 use Rattle.auto_core.specs.declared.labels.Literal.{Literal}
 use Rattle.automata_product.specs.Edges.{renamed, LeadsTo, PutsEdge}

@@ -1,11 +1,10 @@
 -- The machine of a leaf accepts the lists of one letter that passes the label.
-use Rattle.std.proofs.Common.{◌≡◌, ◌↔◌, true, IsTrue, List, [], ◌∷◌, Contains, inl, inr, refl, sym, ap, subst}
+use Rattle.std.proofs.Common.{◌≡◌, ◌↔◌, List, [], ◌∷◌, inl, inr, refl, sym, ap, subst}
 use Rattle.auto_core.specs.declared.labels.Literal.{Literal}
 use Rattle.auto_core.specs.Machine.{Letter, Passes, AcceptsFrom, Accepts}
-use Rattle.automata_product.proofs.Members.{Among, among, contains}
-use Rattle.sere_automata.specs.declared.states.LeafState.{LeafState}
-use Rattle.sere_automata.specs.declared.states.LeafState.TheVariants.{Start, End}
-use Rattle.sere_automata.specs.Leaf.{leaf_machine, leaf_edges}
+use Rattle.automata_product.proofs.Members.{among, contains}
+use Rattle.sere_automata.specs.declared.states.LeafState.TheVariants.{End}
+use Rattle.sere_automata.specs.Leaf.{leaf_machine}
 
 module _ (label : List Literal) where
   from_end : (w : List Letter) → AcceptsFrom (leaf_machine label) End w → w ≡ []

@@ -1,13 +1,11 @@
 -- The machine of a choice accepts what one of the two machines accepts.
-use Rattle.std.proofs.Common.{◌≡◌, ◌↔◌, ◌||◌, ◌⊎◌, Bool, true, false, IsTrue, List, [], ◌∷◌, ◌++◌, map, Contains, inl, inr, refl, sym, ap, subst}
+use Rattle.std.proofs.Common.{◌↔◌, ◌||◌, ◌⊎◌, Bool, true, false, IsTrue, List, [], ◌∷◌, map, inl, inr, refl, sym, ap, subst}
 use Rattle.std.proofs.lemmas.List.Elements.{Contains-append_left, Contains-append_right, Contains-append_cases}
-use Rattle.auto_core.specs.declared.labels.Literal.{Literal}
 use Rattle.auto_core.specs.Machine.{Letter, Passes, Machine, AcceptsFrom, Accepts}
 use Rattle.automata_product.specs.Edges.{renamed}
 use Rattle.automata_product.proofs.Members.{contains-map, contains-map_cases}
-use Rattle.sere_automata.specs.declared.states.Choice.{Choice}
-use Rattle.sere_automata.specs.declared.states.Choice.TheVariants.{New, Left, Right}
-use Rattle.sere_automata.specs.OneOf.{one_of_machine, one_of_edges}
+use Rattle.sere_automata.specs.declared.states.Choice.TheVariants.{Left, Right}
+use Rattle.sere_automata.specs.OneOf.{one_of_machine}
 
 or_left : (b c : Bool) → IsTrue b → IsTrue (b || c)
 or_left true c h = refl

@@ -1,5 +1,5 @@
 -- The machine of a repetition accepts the repetitions.
-use Rattle.std.proofs.Common.{◌≡◌, ◌↔◌, ◌≢◌, ◌⊎◌, ◌∙◌, Bool, true, false, cond, IsTrue, List, [], ◌∷◌, ◌++◌, map, flat_map, append_assoc, Contains, inl, inr, refl, sym, ap, subst}
+use Rattle.std.proofs.Common.{◌↔◌, ◌≢◌, ◌∙◌, cond, IsTrue, List, [], ◌∷◌, ◌++◌, map, Contains, inl, inr, refl, sym, ap, subst}
 use Rattle.std.proofs.lemmas.List.Elements.{Contains-append_left, Contains-append_right, Contains-append_cases}
 use Rattle.std.specs.List.{AllByRecursion}
 use Rattle.auto_core.specs.declared.labels.Literal.{Literal}
@@ -8,9 +8,8 @@ use Rattle.auto_core.specs.Splits.{IsConcatenation, IsRepetition, joined}
 use Rattle.automata_product.specs.Edges.{renamed}
 use Rattle.automata_product.proofs.Members.{contains-map, contains-map_cases}
 use Rattle.sere_automata.proofs.ConcatWords.{contains-if, contains-if_cases}
-use Rattle.sere_automata.specs.declared.states.Round.{Round}
-use Rattle.sere_automata.specs.declared.states.Round.TheVariants.{New, Inner}
-use Rattle.sere_automata.specs.Repeat.{repeat_machine, repeat_edges}
+use Rattle.sere_automata.specs.declared.states.Round.TheVariants.{Inner}
+use Rattle.sere_automata.specs.Repeat.{repeat_machine}
 
 module _ {S : Type 0} (m : Machine S) where
   -- a part is read to its end, and then the rest of the parts

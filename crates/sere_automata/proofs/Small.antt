@@ -1,15 +1,14 @@
 -- What is joined from small tables has few edges at each state.
-use Rattle.std.proofs.Common.{◌≡◌, ℕ, ◌+◌, ◌*◌, ◌<◌, ◌≤◌, ◌^◌, Bool, true, false, cond, List, [], ◌∷◌, ◌++◌, map, length, arith, length-append}
+use Rattle.std.proofs.Common.{ℕ, ◌*◌, ◌<◌, ◌≤◌, ◌^◌, Bool, true, false, cond, List, [], map, length, arith, length-append}
 use Rattle.std.specs.Prelude.{filter, ◌==◌}
 use Rattle.std.proofs.lemmas.List.{length-map}
 use Rattle.std.proofs.lemmas.List.Sums.{length-filter, count_by-le-length}
 use Rattle.std.proofs.lemmas.Nat.{mul-le}
 use Rattle.auto_core.specs.declared.labels.Literal.{Literal}
-use Rattle.auto_core.specs.Machine.{Machine}
-use Rattle.auto_core.specs.Graph.{Graph, graph_machine, edges_from}
+use Rattle.auto_core.specs.Graph.{Graph, graph_machine}
 use Rattle.automata_product.specs.declared.side.Side.{Side}
 use Rattle.automata_product.specs.declared.side.Side.TheVariants.{Left, Right}
-use Rattle.automata_product.specs.Edges.{renamed, products}
+use Rattle.automata_product.specs.Edges.{renamed}
 use Rattle.automata_product.specs.Both.{both_machine}
 use Rattle.automata_product.specs.Fuse.{fuse_machine, last_edges, joint_edges}
 use Rattle.automata_product.proofs.Places.{length-products}

@@ -1,4 +1,4 @@
-use Rattle.std.proofs.Common.{◌≡◌, OnOk, sym, subst}
+use Rattle.std.proofs.Common.{OnOk, sym, subst}
 use Rattle.std.proofs.lemmas.Result.{on_ok_weaker}
 use Rattle.automata_product.specs.Edges.{PutsEdge}
 use Rattle.automata_product.specs.declared.side.Side.TheVariants.{Right}
