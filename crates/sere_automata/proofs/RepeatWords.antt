@@ -1,5 +1,5 @@
 -- The machine of a repetition accepts the repetitions.
-use Rattle.std.proofs.Common.{◌↔◌, ◌≢◌, ◌∙◌, cond, IsTrue, List, [], ◌∷◌, ◌++◌, map, Contains, inl, inr, refl, sym, ap, subst}
+use Rattle.std.proofs.Common.{◌≡◌, ◌↔◌, ◌⊎◌, ◌≢◌, ◌∙◌, cond, IsTrue, List, [], ◌∷◌, ◌++◌, map, Contains, inl, inr, refl, sym, ap, subst}
 use Rattle.std.proofs.lemmas.List.Elements.{Contains-append_left, Contains-append_right, Contains-append_cases}
 use Rattle.std.specs.List.{AllByRecursion}
 use Rattle.auto_core.specs.declared.labels.Literal.{Literal}
@@ -87,4 +87,23 @@ module _ {S : Type 0} (m : Machine S) where
   repeat_words w = (
     (λ h. to_repeat w h),
     (λ (parts, all, e). subst (λ w. Accepts (repeat_machine m) w) (sym e) (repeat_from parts all)),
+  )
+
+  -- the empty list, or a non-empty list of the part and after it one of the repetition's own
+  unrolled_parts : (w : List Letter) (parts : List (List Letter)) → AllByRecursion (λ u. (u ≢ []) × Accepts m u) parts → w ≡ joined parts → (w ≡ []) ⊎ ((u : List Letter) × (v : List Letter) × (w ≡ u ++ v) × (u ≢ []) × Accepts m u × Accepts (repeat_machine m) v)
+  unrolled_parts w [] all e = inl e
+  unrolled_parts w (u ∷ parts) all e = inr (u, joined parts, e, all.0.0, all.0.1, repeat_from parts all.1)
+
+  rolled : (u v : List Letter) → u ≢ [] → Accepts m u → Accepts (repeat_machine m) v → Accepts (repeat_machine m) (u ++ v)
+  rolled u v some h k =
+      let r = to_repeat v k in
+      subst (λ w. Accepts (repeat_machine m) w) (sym (ap (λ z. u ++ z) r.2)) (repeat_from (u ∷ r.0) ((some, h), r.1))
+
+  pub repeat_unrolled : (w : List Letter) → Accepts (repeat_machine m) w ↔ ((w ≡ []) ⊎ ((u : List Letter) × (v : List Letter) × (w ≡ u ++ v) × (u ≢ []) × Accepts m u × Accepts (repeat_machine m) v))
+  repeat_unrolled w = (
+    (λ h. let r = to_repeat w h in unrolled_parts w r.0 r.1 r.2),
+    (λ h. elim h [
+      | inl e ↦ subst (λ w. Accepts (repeat_machine m) w) (sym e) refl
+      | inr k ↦ subst (λ w. Accepts (repeat_machine m) w) (sym k.2) (rolled k.0 k.1 k.3 k.4 k.5)
+    ]),
   )

@@ -1,6 +1,6 @@
 //! An automaton any number of times.
 
-ghost use Rattle.std.specs.Prelude.{◌≡◌, ◌<◌, ◌^◌, ◌↔◌, List, length, Contains, OnOk, refl};
+ghost use Rattle.std.specs.Prelude.{◌≡◌, ◌≢◌, ◌<◌, ◌^◌, ◌↔◌, ◌⊎◌, List, [], ◌++◌, length, Contains, OnOk, refl};
 ghost use Rattle.auto_core.specs.Machine.{Letter, Accepts};
 ghost use Rattle.auto_core.specs.Splits.{IsRepetition};
 ghost use Rattle.auto_core.specs.declared.labels.Literal.{Literal};
@@ -25,6 +25,7 @@ impl<A: Auto> Repeat<A> {
     pub fn new(inner: A) -> Repeat<A>
         ensures made { result ≡ record { inner = inner } }
         ensures words { (w : List Letter) → Accepts (⟦<Repeat<A> as Auto>⟧.machine result) w ↔ IsRepetition (Accepts (A.machine inner)) w }
+        ensures unrolled { (w : List Letter) → Accepts (⟦<Repeat<A> as Auto>⟧.machine result) w ↔ ((w ≡ []) ⊎ ((u : List Letter) × (v : List Letter) × (w ≡ u ++ v) × (u ≢ []) × Accepts (A.machine inner) u × Accepts (⟦<Repeat<A> as Auto>⟧.machine result) v)) }
     {
         Repeat { inner }
     }
