@@ -1,14 +1,13 @@
 -- How marks spread from the accepting states against the edges.
-use Rattle.std.proofs.Common.{◌≡◌, ◌≢◌, ℕ, zero, suc, ◌+◌, ◌<◌, ◌≤◌, Bool, true, false, not, cond, eqb, IsTrue, List, [], ◌∷◌, ◌++◌, length, map, set, filter, take, get_or, count_by, None, replicate, inl, inr, ◌⊎◌, ◌↔◌, refl, sym, ap, ◌∙◌, subst, arith, All, Contains}
-use Rattle.std.specs.Bool.{Decides}
+use Rattle.std.proofs.Common.{◌≡◌, ◌≢◌, ℕ, zero, suc, ◌+◌, ◌<◌, Bool, true, false, not, cond, eqb, IsTrue, List, [], ◌∷◌, ◌++◌, length, set, filter, take, get_or, count_by, None, replicate, inl, inr, ◌⊎◌, ◌↔◌, refl, sym, ap, ◌∙◌, subst, arith, All}
 use Rattle.std.proofs.lemmas.Bool.Decides.{Decides-eqb}
-use Rattle.std.proofs.lemmas.List.{get_or-set_same, get_or-set_other, length-set, take_more, get_or-map, map-set}
+use Rattle.std.proofs.lemmas.List.{get_or-set_same, get_or-set_other, length-set, take_more}
 use Rattle.std.proofs.lemmas.List.Sums.{sum_by-cons}
 use Rattle.auto_core.specs.declared.labels.Literal.{Literal}
 use Rattle.auto_core.specs.declared.tables.Edge.{Edge}
-use Rattle.auto_core.specs.Machine.{Letter, Machine, AcceptsFrom}
+use Rattle.auto_core.specs.Machine.{AcceptsFrom}
 use Rattle.auto_core.specs.Graph.{Graph, graph_machine, edges_from, IsAlive}
-use Rattle.auto_core.specs.Searching.{IsMarked, HasSources, Spreads, IsClosed, IsSearch}
+use Rattle.auto_core.specs.Searching.{IsMarked, HasSources, Spreads, IsSearch}
 use Rattle.auto_core.proofs.Members.{Among, Contains-from_Among, Among-from_Contains}
 use Rattle.auto_core.proofs.Once.{told, true-false, Among-append, Among-left, Among-right, Among-filter, Among-filter_back}
 use Rattle.auto_core.proofs.Steps.{Among-map, map-Among, All-among, All-from_among}

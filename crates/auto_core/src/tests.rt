@@ -74,8 +74,15 @@ fn a_label_is_a_set_in_order(rt: HostRuntime) -> Result<(), Fail> {
 
 #[test]
 fn a_table_has_the_reached_states_and_equal_edges_once(rt: HostRuntime) -> Result<(), Fail> {
+    let mut label = Label::new(rt.alloc());
+    label.put(literal(0, true))?;
+    label.put(literal(0, false))?;
+    let toggle = Toggle { label };
     assert!(rt;
-        materialise(rt.alloc(), &Toggle, 1).is_err_and(|error| error == TableError::TooMany)
+        matches!(
+            materialise(rt.alloc(), &toggle, 1),
+            Err(TableError::TooMany)
+        )
     );
     let table = materialise(rt.alloc(), &toggle, 2).expect(&rt, "two states are allowed");
     assert_eq!(rt; table.states(), 2);

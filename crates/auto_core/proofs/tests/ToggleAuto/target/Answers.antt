@@ -1,4 +1,4 @@
-use Rattle.std.proofs.Common.{◌≡◌, ℕ, zero, suc, ◌<◌, List, [], ◌∷◌, slice_get, Some, refl, arith}
+use Rattle.std.proofs.Common.{◌≡◌, ℕ, zero, suc, ◌<◌, [], ◌∷◌, slice_get, Some, refl, arith}
 use Rattle.auto_core.proofs.tests.ToggleAuto.target.Goals as goal
 
 pub at_place : {X : Type 0} (x : X) (place : ℕ) → place < 2 → slice_get (x ∷ x ∷ []) place ≡ Some x
