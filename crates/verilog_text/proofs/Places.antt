@@ -85,7 +85,7 @@ pub numbered_at : (m : code.Module) (place : ℕ) → length m.ports ≤ place �
 numbered_at m place le =
     ap (λ names. name_at names place) (append_assoc (port_names (module_of m)) (register_names (module_of m)) (wire_names (module_of m)))
     ∙ second_part (port_names (module_of m)) (register_names (module_of m) ++ wire_names (module_of m)) place (place - length m.ports)
-      (omega (arith, length-map m.ports (λ (p : Signal). p.name)))
+    (omega (arith, length-map m.ports (λ (p : Signal). p.name)))
 
 -- a look-up that finds nothing is past the end
 pub none_past : {X : Type 0} (xs : List X) (place : ℕ) → None ≡ slice_get xs place → length xs ≤ place

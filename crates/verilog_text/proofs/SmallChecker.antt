@@ -85,9 +85,9 @@ output c a r port register settled =
     let wires : c.wires ≡ any ∷ none ∷ [] = settled.wires in
     let any_is : any ≡ bit_of (not (a == 0)) % 2 ^ 1 = ap (λ (ports : List ℕ). bit_of (not (at ports c.registers c.wires 0 == 0)) % 2 ^ 1) port in
     let none_is : none ≡ bit_of (any == 0) % 2 ^ 1 =
-        ap (λ (ports : List ℕ). bit_of (at ports c.registers c.wires 2 == 0) % 2 ^ 1) port
-        ∙ ap (λ (registers : List ℕ). bit_of (at (a ∷ []) registers c.wires 2 == 0) % 2 ^ 1) register
-        ∙ ap (λ (wires : List ℕ). bit_of (at (a ∷ []) (r ∷ []) wires 2 == 0) % 2 ^ 1) wires in
+    ap (λ (ports : List ℕ). bit_of (at ports c.registers c.wires 2 == 0) % 2 ^ 1) port
+    ∙ ap (λ (registers : List ℕ). bit_of (at (a ∷ []) registers c.wires 2 == 0) % 2 ^ 1) register
+    ∙ ap (λ (wires : List ℕ). bit_of (at (a ∷ []) (r ∷ []) wires 2 == 0) % 2 ^ 1) wires in
     settled.fail
     ∙ ap (λ (ports : List ℕ). at ports c.registers c.wires 3 % 2 ^ 1) port
     ∙ ap (λ (registers : List ℕ). at (a ∷ []) registers c.wires 3 % 2 ^ 1) register

@@ -10,13 +10,13 @@ use Rattle.verilog_text.specs.Run.{Cycle}
 -- Its names are, from place 0 on: `mbac_rst`, `mbac_eot`, `a`, `mbac_r0`, `mbac_n0` and `mbac_n1`.
 abbrev pub small_checker : Module
 small_checker = record {
-    name = codes "mbac_u_1";
-    report = None;
-    ports = record { name = codes "a"; width = 1 } ∷ [];
-    registers = record { width = 1; initial = 1; next = sized 1 0 } ∷ [];
-    wires = record { width = 1; value = unary AnyOne (whole 2) } ∷ record { width = 1; value = unary Not (whole 4) } ∷ [];
-    fail = whole 5;
-  }
+  name = codes "mbac_u_1";
+  report = None;
+  ports = record { name = codes "a"; width = 1 } ∷ [];
+  registers = record { width = 1; initial = 1; next = sized 1 0 } ∷ [];
+  wires = record { width = 1; value = unary AnyOne (whole 2) } ∷ record { width = 1; value = unary Not (whole 4) } ∷ [];
+  fail = whole 5;
+}
 
 abbrev pub small_text : List ℕ
 small_text =
@@ -43,9 +43,13 @@ never_ending = 0 ∷ 0 ∷ []
 -- a cycle of reset with the register at 0 and `a` at 0, and the two cycles after it
 abbrev pub reset_cycle : Cycle
 reset_cycle = record {
-    reset = 1; end_of_execution = 0;
-    ports = 0 ∷ []; registers = 0 ∷ []; wires = 0 ∷ 1 ∷ []; fail = 1;
-  }
+  reset = 1;
+  end_of_execution = 0;
+  ports = 0 ∷ [];
+  registers = 0 ∷ [];
+  wires = 0 ∷ 1 ∷ [];
+  fail = 1;
+}
 
 abbrev pub two_cycles : List Cycle
 two_cycles =

@@ -15,10 +15,10 @@ wire_of w = record { width = w.width; value = expr_of w.value }
 
 abbrev pub module_of : code.Module → Module
 module_of m = record {
-    name = m.name;
-    report = m.report;
-    ports = m.ports;
-    registers = map register_of m.regs;
-    wires = map wire_of m.wires;
-    fail = expr_of m.fail;
-  }
+  name = m.name;
+  report = m.report;
+  ports = m.ports;
+  registers = map register_of m.regs;
+  wires = map wire_of m.wires;
+  fail = expr_of m.fail;
+}

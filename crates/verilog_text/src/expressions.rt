@@ -15,11 +15,7 @@ use std::alloc::AllocError;
 
 /// An expression over the module's table of names. It goes as deep as the expression does.
 #[tactic(auto, using(crate::proofs::Growth::extends_twice))]
-pub fn put_expression(
-    module: &Module,
-    expr: &Expr,
-    out: &mut Vec<u8>,
-) -> Result<(), AllocError>
+pub fn put_expression(module: &Module, expr: &Expr, out: &mut Vec<u8>) -> Result<(), AllocError>
     ensures text { OnOk result (out.new.items ≡ out.old.items ++ expression_text (names_of (module_of module.now)) (expr_of expr.now)) }
     ensures kept { Extends out.old.items out.new.items }
 {

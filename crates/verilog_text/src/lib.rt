@@ -7,6 +7,8 @@ mod expressions;
 mod module;
 mod names;
 mod printing;
+#[cfg(test)]
+mod tests;
 
 pub use module::{Module, RegDecl, WireDecl};
 pub use printing::print;

@@ -24,11 +24,7 @@ pub fn put_name(module: &Module, place: usize, out: &mut Vec<u8>) -> Result<(), 
 }
 
 #[tactic(auto, using(crate::proofs::Places::port_at, crate::proofs::Places::numbered_at))]
-fn put_declared_name(
-    module: &Module,
-    place: usize,
-    out: &mut Vec<u8>,
-) -> Result<(), AllocError>
+fn put_declared_name(module: &Module, place: usize, out: &mut Vec<u8>) -> Result<(), AllocError>
     ensures text { OnOk result (out.new.items ≡ out.old.items
         ++ name_at (port_names (module_of module.now) ++ register_names (module_of module.now) ++ wire_names (module_of module.now)) place) }
     ensures kept { Extends out.old.items out.new.items }
@@ -40,11 +36,7 @@ fn put_declared_name(
 }
 
 #[tactic(auto, using(crate::proofs::Places::register_at, crate::proofs::Places::wire_at, crate::proofs::Places::none_at))]
-fn put_numbered_name(
-    module: &Module,
-    place: usize,
-    out: &mut Vec<u8>,
-) -> Result<(), AllocError>
+fn put_numbered_name(module: &Module, place: usize, out: &mut Vec<u8>) -> Result<(), AllocError>
     ensures text { OnOk result (out.new.items ≡ out.old.items
         ++ name_at (register_names (module_of module.now) ++ wire_names (module_of module.now)) place) }
     ensures kept { Extends out.old.items out.new.items }

@@ -166,11 +166,7 @@ fn put_registers(registers: &[RegDecl], out: &mut Vec<u8>) -> Result<(), AllocEr
 }
 
 #[tactic(auto, using(crate::proofs::Growth::extends_twice), unfolding(crate::specs::Text::register_line))]
-fn put_register(
-    number: usize,
-    register: &RegDecl,
-    out: &mut Vec<u8>,
-) -> Result<(), AllocError>
+fn put_register(number: usize, register: &RegDecl, out: &mut Vec<u8>) -> Result<(), AllocError>
     ensures text { OnOk result (out.new.items ≡ out.old.items ++ register_line number (register_of register.now)) }
     ensures kept { Extends out.old.items out.new.items }
 {
@@ -181,11 +177,7 @@ fn put_register(
 }
 
 #[tactic(auto, using(crate::proofs::Growth::extends_twice, crate::proofs::Growth::extends_none))]
-fn put_wires(
-    module: &Module,
-    wires: &[WireDecl],
-    out: &mut Vec<u8>,
-) -> Result<(), AllocError>
+fn put_wires(module: &Module, wires: &[WireDecl], out: &mut Vec<u8>) -> Result<(), AllocError>
     ensures text { OnOk result (out.new.items ≡ out.old.items
         ++ each_numbered (wire_line (names_of (module_of module.now))) 0 (map wire_of wires.now)) }
     ensures kept { Extends out.old.items out.new.items }
@@ -213,11 +205,7 @@ fn put_wire(
 }
 
 #[tactic(auto, using(crate::proofs::Growth::extends_twice), unfolding(crate::specs::Text::wire_declaration))]
-fn put_wire_declaration(
-    number: usize,
-    wire: &WireDecl,
-    out: &mut Vec<u8>,
-) -> Result<(), AllocError>
+fn put_wire_declaration(number: usize, wire: &WireDecl, out: &mut Vec<u8>) -> Result<(), AllocError>
     ensures text { OnOk result (out.new.items ≡ out.old.items ++ wire_declaration number (wire_of wire.now)) }
     ensures kept { Extends out.old.items out.new.items }
 {
@@ -272,11 +260,7 @@ fn put_always(
 }
 
 #[tactic(auto, using(crate::proofs::Growth::extends_twice), unfolding(crate::specs::Text::update_text))]
-fn put_update(
-    module: &Module,
-    register: &RegDecl,
-    out: &mut Vec<u8>,
-) -> Result<(), AllocError>
+fn put_update(module: &Module, register: &RegDecl, out: &mut Vec<u8>) -> Result<(), AllocError>
     ensures text { OnOk result (out.new.items ≡ out.old.items ++ update_text (names_of (module_of module.now)) (register_of register.now)) }
     ensures kept { Extends out.old.items out.new.items }
 {

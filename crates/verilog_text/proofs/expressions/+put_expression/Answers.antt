@@ -6,18 +6,18 @@ pub returns-in_err-put_expression-in-Choice-3-clause-kept : goal.returns-in_err-
 returns-in_err-put_expression-in-Choice-3-clause-kept t c =
     extends_twice _ _ _ c.put-in-Choice.ensures.kept
     (extends_twice _ _ _ c.put_expression-in-Choice.ensures.kept
-     (extends_twice _ _ _ c.put-in-Choice-2.ensures.kept
-      (extends_twice _ _ _ c.put_expression-in-Choice-2.ensures.kept
-       (extends_twice _ _ _ c.put-in-Choice-3.ensures.kept c.put_expression-in-Choice-3.ensures.kept))))
+    (extends_twice _ _ _ c.put-in-Choice-2.ensures.kept
+    (extends_twice _ _ _ c.put_expression-in-Choice-2.ensures.kept
+    (extends_twice _ _ _ c.put-in-Choice-3.ensures.kept c.put_expression-in-Choice-3.ensures.kept))))
 
 pub returns-in_ok-put_expression-in-Choice-3-clause-kept : goal.returns-in_ok-put_expression-in-Choice-3-clause-kept
 returns-in_ok-put_expression-in-Choice-3-clause-kept t c =
     extends_twice _ _ _ c.put-in-Choice.ensures.kept
     (extends_twice _ _ _ c.put_expression-in-Choice.ensures.kept
-     (extends_twice _ _ _ c.put-in-Choice-2.ensures.kept
-      (extends_twice _ _ _ c.put_expression-in-Choice-2.ensures.kept
-       (extends_twice _ _ _ c.put-in-Choice-3.ensures.kept
-        (extends_twice _ _ _ c.put_expression-in-Choice-3.ensures.kept c.put-in-Choice-4.ensures.kept)))))
+    (extends_twice _ _ _ c.put-in-Choice-2.ensures.kept
+    (extends_twice _ _ _ c.put_expression-in-Choice-2.ensures.kept
+    (extends_twice _ _ _ c.put-in-Choice-3.ensures.kept
+    (extends_twice _ _ _ c.put_expression-in-Choice-3.ensures.kept c.put-in-Choice-4.ensures.kept)))))
 
 pub returns-in_ok-put_expression-in-Unary-clause-text : goal.returns-in_ok-put_expression-in-Unary-clause-text
 returns-in_ok-put_expression-in-Unary-clause-text t c =
