@@ -1,17 +1,16 @@
 -- The states one after the other, and the rows in which their edges are filed.
-use Rattle.std.proofs.Common.{◌≡◌, ◌≢◌, ℕ, zero, suc, ◌+◌, ◌-◌, ◌<◌, ◌≤◌, ◌^◌, Bool, true, false, eqb, cond, List, [], ◌∷◌, ◌++◌, length, map, filter, take, drop, slice_get, slice_range, Some, inl, inr, ◌⊎◌, refl, sym, ap, ◌∙◌, subst, arith, All, append_assoc, length-append, length-drop}
-use Rattle.std.specs.Bool.{Decides}
-use Rattle.std.proofs.lemmas.Bool.Decides.{nat_tests, Decides-eqb}
-use Rattle.std.proofs.lemmas.List.{take-append-le, drop-append-le, take_all, length-map, length-take-le}
-use Rattle.std.proofs.lemmas.List.Elements.{All-push, All-nil, All-append, All-weaker, All-head, All-tail, filter-append}
+use Rattle.std.proofs.Common.{◌≡◌, ◌≢◌, ℕ, zero, suc, ◌+◌, ◌-◌, ◌<◌, ◌≤◌, Bool, eqb, cond, List, [], ◌∷◌, ◌++◌, length, map, filter, take, drop, slice_get, Some, inl, inr, ◌⊎◌, refl, sym, ap, ◌∙◌, subst, arith, All, length-append, length-drop}
+use Rattle.std.proofs.lemmas.Bool.Decides.{Decides-eqb}
+use Rattle.std.proofs.lemmas.List.{take-append-le, drop-append-le, take_all}
+use Rattle.std.proofs.lemmas.List.Elements.{All-nil, All-append, All-weaker, All-head, All-tail, filter-append}
 use Rattle.std.proofs.lemmas.Option.{slice_get_within}
 use Rattle.auto_core.specs.declared.tables.Edge.{Edge}
 use Rattle.auto_core.specs.declared.tables.Row.{Row}
 use Rattle.auto_core.specs.Machine.{Machine}
 use Rattle.auto_core.specs.Rows.{HasEdgesOf}
-use Rattle.auto_core.specs.Graph.{Step, once_each, same_edge, numbered, steps_from}
+use Rattle.auto_core.specs.Graph.{steps_from}
 use Rattle.auto_core.specs.Exploring.{IsExplored, AddsEdgesOf, AreFiled}
-use Rattle.auto_core.proofs.Once.{append-nil, told, true-false}
+use Rattle.auto_core.proofs.Once.{append-nil, told}
 use Rattle.auto_core.proofs.Steps.{map-append, take-next}
 
 -- the states before the place have been explored, and a row filed for each

@@ -1,16 +1,11 @@
 -- What is put into a label is in it, and a label is determined by its members.
-use Rattle.std.proofs.Common.{◌≡◌, ℕ, ◌<◌, ◌≤◌, Bool, true, false, cond, List, [], ◌∷◌, ◌++◌, slice_get, Contains, ◌⊎◌, ◌↔◌, inl, inr, refl, sym, ap, ◌∙◌, subst, Some, None, arith}
-use Rattle.std.specs.List.{AllByRecursion}
+use Rattle.std.proofs.Common.{◌≡◌, ℕ, ◌<◌, Bool, true, cond, List, [], ◌∷◌, ◌++◌, slice_get, Contains, ◌⊎◌, ◌↔◌, inl, inr, refl, sym, ap, ◌∙◌, subst, Some, None, arith}
 use Rattle.auto_core.specs.declared.labels.Literal.{Literal}
 use Rattle.auto_core.specs.LiteralSets.{precedes, IsLabel, put_literal, put_all}
 use Rattle.auto_core.specs.Machine.{Letter, Passes}
 use Rattle.auto_core.proofs.Members.{Among, Contains-from_Among, Among-from_Contains, ByRecursion-among, ByRecursion-from}
+use Rattle.auto_core.proofs.Once.{told}
 use Rattle.auto_core.proofs.LabelOrder.{rank, rank-below, rank-not_below, precedes-from_rank, rank-same}
-
--- a test with its answer
-pub told : (b : Bool) → (b ≡ true) ⊎ (b ≡ false)
-told true = inl refl
-told false = inr refl
 
 -- the three cases of `put_literal`
 pub put_literal-before : (l m : Literal) (ms : List Literal) → precedes l m ≡ true → put_literal l (m ∷ ms) ≡ l ∷ m ∷ ms

@@ -1,23 +1,23 @@
 -- When no state is left, what was seen is the graph of the automaton.
-use Rattle.std.proofs.Common.{◌≡◌, ◌≢◌, ℕ, zero, suc, ◌+◌, ◌-◌, ◌<◌, ◌≤◌, ◌^◌, Bool, true, false, eqb, IsTrue, List, [], ◌∷◌, ◌++◌, length, map, filter, take, get_or, slice_get, Some, None, inl, inr, ◌⊎◌, ◌↔◌, refl, sym, ap, ◌∙◌, subst, arith, All, AllPairs, Contains}
+use Rattle.std.proofs.Common.{◌≡◌, ℕ, zero, suc, ◌+◌, ◌<◌, ◌≤◌, ◌^◌, Bool, false, eqb, List, [], ◌∷◌, length, map, filter, get_or, slice_get, Some, inl, inr, ◌⊎◌, ◌↔◌, refl, sym, ap, ◌∙◌, subst, arith}
 use Rattle.std.specs.Bool.{Decides}
 use Rattle.std.specs.List.{position_or_len}
 use Rattle.std.proofs.lemmas.Bool.Decides.{Decides-eqb}
-use Rattle.std.proofs.lemmas.List.{take_all, length-map}
-use Rattle.std.proofs.lemmas.List.Elements.{All-same, All-nil, All-cons, All-weaker}
+use Rattle.std.proofs.lemmas.List.{take_all}
+use Rattle.std.proofs.lemmas.List.Elements.{All-same, All-nil, All-cons}
 use Rattle.std.proofs.lemmas.Option.{same_Some}
 use Rattle.indexmap.specs.IndexSet.{insert_key}
 use Rattle.auto_core.specs.declared.labels.Literal.{Literal}
 use Rattle.auto_core.specs.declared.tables.Edge.{Edge}
 use Rattle.auto_core.specs.declared.tables.Row.{Row}
-use Rattle.auto_core.specs.Machine.{Machine, Letter, Passes, AcceptsFrom, Accepts}
-use Rattle.auto_core.specs.Rows.{HasEdgesOf, IsFiled}
-use Rattle.auto_core.specs.Graph.{Step, Graph, Reached, at_start, by_edge, ReachesMoreThan, IsGraphOf, once_each, same_edge, numbered, steps_from, steps_of, edges_from, graph_machine}
+use Rattle.auto_core.specs.Machine.{Machine, Letter, AcceptsFrom, Accepts}
+use Rattle.auto_core.specs.Rows.{IsFiled}
+use Rattle.auto_core.specs.Graph.{Step, Graph, Reached, at_start, by_edge, ReachesMoreThan, IsGraphOf, same_edge, numbered, steps_from, steps_of, edges_from, graph_machine}
 use Rattle.auto_core.specs.Exploring.{IsExplored, AreFiled}
 use Rattle.auto_core.proofs.Members.{Among, Contains-from_Among, Among-from_Contains}
 use Rattle.auto_core.proofs.SameLabel.{same_edge-Decides}
-use Rattle.auto_core.proofs.Once.{Apart, AllPairs-from_Apart, Apart-from_AllPairs, Among-append, Among-left, Among-right, Among-slice_get, slice_get-Among, Among-filter, Among-filter_back, Among-once, once-Among, position-Among}
-use Rattle.auto_core.proofs.Steps.{map-append, Among-map, map-Among, All-among, All-from_among, names-among, names-apart}
+use Rattle.auto_core.proofs.Once.{Apart, AllPairs-from_Apart, Apart-from_AllPairs, Among-append, Among-left, Among-right, slice_get-Among, Among-filter, Among-filter_back, Among-once, once-Among, position-Among}
+use Rattle.auto_core.proofs.Steps.{Among-map, map-Among, All-among, All-from_among, names-among, names-apart}
 
 -- ---- a list of different elements is no longer than one that has them all
 

@@ -1,10 +1,8 @@
 -- A state's edges stand in its row.
-use Rattle.std.proofs.Common.{◌≡◌, ℕ, zero, suc, ◌+◌, ◌-◌, ◌<◌, ◌≤◌, eqb, List, [], ◌∷◌, length, map, filter, get_or, take, drop, slice_get, Some, Bool, false, refl, sym, ap, ◌∙◌, subst, arith, length-take, length-drop, All}
-use Rattle.std.specs.List.{slice_range}
+use Rattle.std.proofs.Common.{◌≡◌, ℕ, zero, suc, ◌+◌, ◌-◌, ◌<◌, eqb, List, [], ◌∷◌, length, map, filter, get_or, take, drop, slice_get, Some, false, refl, sym, ap, ◌∙◌, subst, arith, length-take, length-drop, All}
 use Rattle.std.proofs.lemmas.Option.{slice_get-map, slice_get_read}
 use Rattle.std.proofs.lemmas.List.Elements.{All-same, All-weaker}
 use Rattle.std.specs.Option.{option_map}
-use Rattle.auto_core.specs.declared.labels.Literal.{Literal}
 use Rattle.auto_core.specs.declared.tables.Edge.{Edge}
 use Rattle.auto_core.specs.declared.tables.Row.{Row}
 use Rattle.auto_core.specs.Graph.{Graph, edges_from}

@@ -1,18 +1,16 @@
 -- What a search has seen after one more edge, and after one more state.
-use Rattle.std.proofs.Common.{◌≡◌, ℕ, zero, suc, ◌+◌, ◌-◌, ◌<◌, ◌≤◌, Bool, true, List, [], ◌∷◌, ◌++◌, length, get_or, map, filter, take, slice_get, Some, ◌⊎◌, inl, inr, refl, sym, ap, ◌∙◌, subst, arith, AllPairs, All, Contains, append_assoc, length-append, ◌≢◌}
+use Rattle.std.proofs.Common.{◌≡◌, ℕ, zero, suc, ◌+◌, ◌<◌, Bool, List, [], ◌∷◌, ◌++◌, length, get_or, map, take, slice_get, Some, inl, inr, refl, sym, ap, ◌∙◌, subst, arith, All, append_assoc, length-append}
 use Rattle.std.specs.Bool.{Decides}
-use Rattle.std.specs.List.{list_any, position_or_len}
-use Rattle.std.proofs.lemmas.List.Elements.{All-push, All-same, All-contains, All-get_or}
-use Rattle.std.proofs.lemmas.Option.{slice_get_within, get_or_from_slice_get}
+use Rattle.std.specs.List.{position_or_len}
+use Rattle.std.proofs.lemmas.List.Elements.{All-push, All-same, All-contains}
 use Rattle.indexmap.specs.IndexSet.{insert_key}
-use Rattle.auto_core.specs.declared.labels.Literal.{Literal}
 use Rattle.auto_core.specs.declared.tables.Edge.{Edge}
 use Rattle.auto_core.specs.Machine.{Machine}
-use Rattle.auto_core.specs.Graph.{Step, Reached, at_start, by_edge, ReachesMoreThan, once_each, numbered, same_edge, steps_from, steps_of}
+use Rattle.auto_core.specs.Graph.{Step, Reached, by_edge, ReachesMoreThan, once_each, numbered, same_edge, steps_from, steps_of}
 use Rattle.auto_core.specs.Exploring.{IsExplored, TakesEdge, FindsTooMany}
-use Rattle.auto_core.proofs.Members.{Among, Contains-from_Among, Among-from_Contains}
+use Rattle.auto_core.proofs.Members.{Among, Contains-from_Among}
 use Rattle.auto_core.proofs.SameLabel.{same_edge-Decides}
-use Rattle.auto_core.proofs.Once.{Apart, Among-slice_get, Among-left, Apart-push, AllPairs-from_Apart, Apart-once, Among-once, insert_key-there, insert_key-new, among_or_not, once_each-push, position-Among, position-absent, position-more, position-inserted}
+use Rattle.auto_core.proofs.Once.{Apart, Among-slice_get, Apart-push, AllPairs-from_Apart, Apart-once, Among-once, insert_key-there, insert_key-new, among_or_not, once_each-push, position-Among, position-absent, position-more, position-inserted}
 
 pub map-append : {X Y : Type 0} (f : X → Y) (xs ys : List X) → map f (xs ++ ys) ≡ map f xs ++ map f ys
 map-append f [] ys = refl

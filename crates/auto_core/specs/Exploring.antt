@@ -1,12 +1,12 @@
 -- What is known of the states and edges that a search from the start has seen so far.
-use Rattle.std.specs.Prelude.{◌≡◌, ℕ, suc, ◌+◌, ◌<◌, ◌≤◌, Bool, List, [], ◌∷◌, ◌++◌, ◌==◌, Some, length, map, filter, slice_get, slice_range, take, All}
+use Rattle.std.specs.Prelude.{◌≡◌, ℕ, ◌<◌, ◌≤◌, Bool, List, ◌∷◌, ◌++◌, Some, length, map, slice_get, take, All}
 use Rattle.std.specs.List.{position_or_len}
 use Rattle.indexmap.specs.IndexSet.{insert_key}
 use Rattle.auto_core.specs.declared.labels.Literal.{Literal}
 use Rattle.auto_core.specs.declared.tables.Edge.{Edge}
 use Rattle.auto_core.specs.declared.tables.Row.{Row}
 use Rattle.auto_core.specs.Machine.{Machine}
-use Rattle.auto_core.specs.Graph.{Step, Reached, once_each, numbered, same_edge, steps_from, steps_of}
+use Rattle.auto_core.specs.Graph.{Step, Reached, once_each, numbered, same_edge}
 use Rattle.auto_core.specs.Rows.{HasEdgesOf}
 
 -- after these steps: the names that they led to, and their edges

@@ -1,10 +1,10 @@
 -- Tables as plain data, and when a table is the graph of the states that an automaton reaches.
-use Rattle.std.specs.Prelude.{◌≡◌, ℕ, suc, ◌<◌, Bool, true, false, not, List, [], ◌∷◌, ◌++◌, ◌==◌, ◌&&◌, None, length, map, filter, replicate, slice_index_or, AllPairs, All, Contains, ◌≢◌}
+use Rattle.std.specs.Prelude.{◌≡◌, ℕ, suc, ◌<◌, Bool, false, not, List, [], ◌∷◌, ◌++◌, ◌==◌, ◌&&◌, None, length, map, filter, replicate, slice_index_or, AllPairs, All, Contains, ◌≢◌}
 use Rattle.std.specs.List.{position_or_len}
 use Rattle.auto_core.specs.declared.labels.Literal.{Literal}
 use Rattle.auto_core.specs.declared.tables.Edge.{Edge}
 use Rattle.auto_core.specs.LiteralSets.{same_label}
-use Rattle.auto_core.specs.Machine.{Machine, Letter, AcceptsFrom}
+use Rattle.auto_core.specs.Machine.{Machine, AcceptsFrom}
 
 -- which of the states 0, 1, and so on accept, and all edges
 pub record Graph : Type 0 where

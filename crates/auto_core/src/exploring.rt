@@ -2,17 +2,17 @@
 
 ghost use Rattle.std.specs.Prelude.{◌≡◌, ◌↔◌, ℕ, ◌+◌, ◌<◌, ◌≤◌, List, [], ◌∷◌, ◌++◌, Some, length, take, slice_get, OnOk, IfOk, IsErrOf};
 ghost use Rattle.std.specs.List.{position_or_len};
-ghost use Rattle.indexmap.specs.IndexSet.{insert_key, IsEmpty};
+ghost use Rattle.indexmap.specs.IndexSet.{insert_key};
 ghost use Rattle.auto_core.specs.declared.exploring.TableError.TheVariants.{TooMany};
 ghost use Rattle.auto_core.specs.Machine.{Letter, Accepts};
-ghost use Rattle.auto_core.specs.Graph.{Graph, graph_machine, ReachesMoreThan, IsGraphOf, same_edge, steps_from};
+ghost use Rattle.auto_core.specs.Graph.{graph_machine, ReachesMoreThan, IsGraphOf, same_edge, steps_from};
 ghost use Rattle.auto_core.specs.Exploring.{IsExplored, TakesEdge, FindsTooMany, AddsEdgesOf, AreFiled};
 
 use crate::automaton::Auto;
 use crate::labels::Label;
 use crate::tables::{Edge, Row, Table};
 use indexmap::IndexSet;
-use std::alloc::{AllocError, AllocFailed, Global};
+use std::alloc::Global;
 use std::hash::Hash;
 
 /// Why there is no table of an automaton.
@@ -21,12 +21,6 @@ pub enum TableError {
     /// More states are reached than were allowed.
     TooMany,
     OutOfMemory,
-}
-
-impl From<AllocError> for TableError {
-    fn from(_error: AllocError) -> Self {
-        TableError::OutOfMemory
-    }
 }
 
 // The states that were seen, each at the place that is its number, and the edges between numbers.

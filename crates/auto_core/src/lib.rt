@@ -12,3 +12,6 @@ pub use automaton::Auto;
 pub use exploring::{TableError, materialise};
 pub use labels::{Label, Literal};
 pub use tables::{Edge, Table};
+
+#[cfg(test)]
+mod tests;

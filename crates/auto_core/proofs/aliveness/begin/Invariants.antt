@@ -7,5 +7,5 @@ abbrev pub invariant-loop-state : goal.invariant-loop-state
 invariant-loop-state l = record {
   marks : l.marked.items ≡ take l.state l.table.accepting;
   works : (n : ℕ) → IsMarked l.marked.items n → Among l.work.items n;
-  known : (n : ℕ) → Among l.work.items n → (n < l.state) × IsMarked l.marked.items n
+  known : (n : ℕ) → Among l.work.items n → (n < l.state) × IsMarked l.marked.items n;
 }

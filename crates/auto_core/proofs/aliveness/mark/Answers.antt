@@ -1,4 +1,4 @@
-use Rattle.std.proofs.Common.{◌≡◌, ◌∙◌, sym, ap, subst, List, ℕ, ◌++◌, ◌∷◌, [], get_or, set, true, false, Bool, arith}
+use Rattle.std.proofs.Common.{◌≡◌, sym, subst, List, ℕ, ◌∷◌, [], get_or, set, true, false, arith}
 use Rattle.auto_core.specs.Searching.{Spreads}
 use Rattle.auto_core.proofs.Marking.{spread_new}
 use Rattle.auto_core.proofs.aliveness.mark.Goals as goal

@@ -17,14 +17,14 @@ stored : (c : goal.In_ok-put_source)
 stored c =
     map-set vec_items c.loop-edge.rows.items c.edge-item.result.to c.put_source.new.row
     ∙ ap (λ (s : List ℕ). set (map vec_items c.loop-edge.rows.items) c.edge-item.result.to s)
-      (c.in_ok-put_source.ensures
-        ∙ ap (λ (s : List ℕ). s ++ c.edge-item.result.from ∷ [])
-          (ap vec_items c.index_mut.ensures.value ∙ sym (get_or-map vec_items c.loop-edge.rows.items c.edge-item.result.to c.index_mut.result.now [] (below c))))
+    (c.in_ok-put_source.ensures
+    ∙ ap (λ (s : List ℕ). s ++ c.edge-item.result.from ∷ [])
+    (ap vec_items c.index_mut.ensures.value ∙ sym (get_or-map vec_items c.loop-edge.rows.items c.edge-item.result.to c.index_mut.result.now [] (below c))))
 
 pub loop-edge-preserved : goal.loop-edge-preserved
 loop-edge-preserved c = record {
   size = length-set c.loop-edge.rows.items c.edge-item.result.to c.put_source.new.row ∙ c.loop-edge.invariant.size;
   sources = source_more c.args.edges.now c.loop-edge.edge-index c.edge-item.result (map vec_items c.loop-edge.rows.items) _ c.loop-edge-test.true c.edge-item.is c.loop-edge.invariant.sources
-    (let l = length-map c.loop-edge.rows.items vec_items in let b = below c in omega arith)
-    (stored c);
+      (let l = length-map c.loop-edge.rows.items vec_items in let b = below c in omega arith)
+      (stored c);
 }

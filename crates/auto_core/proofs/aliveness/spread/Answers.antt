@@ -1,8 +1,8 @@
-use Rattle.std.proofs.Common.{◌≡◌, ◌∙◌, sym, ap, subst, ℕ, List, [], ◌<◌, length, map, get_or, vec_items, vec_len, arith, All}
+use Rattle.std.proofs.Common.{◌≡◌, ◌∙◌, sym, ap, subst, ℕ, List, [], ◌<◌, length, map, get_or, vec_items, arith, All}
 use Rattle.std.proofs.lemmas.List.{get_or-map, length-map}
 use Rattle.auto_core.specs.declared.tables.Edge.{Edge}
 use Rattle.auto_core.specs.Graph.{Graph}
-use Rattle.auto_core.specs.Searching.{HasSources, IsSearch}
+use Rattle.auto_core.specs.Searching.{HasSources}
 use Rattle.auto_core.proofs.Marking.{state_inside, row_inside, spread_step}
 use Rattle.auto_core.proofs.aliveness.spread.Goals as goal
 
@@ -33,8 +33,8 @@ mark_all-requires c =
     row_inside c.args.table.now (map vec_items c.in_ok-sources.sources.items) c.in-Some.state c.as_slice.result.now c.loop-state.marked.items
     (sources_in c.args.table.now _ _ c.edges.ensures.value c.in_ok-sources.ensures.sources)
     (row_in vec_items c.args.table.now c.in_ok-sources.sources.items _ c.in-Some.state c.index.result.now _
-      (state_inside c.args.table.now c.loop-state.marked.items c.loop-state.work.items c.pop.new.self.items c.in-Some.state c.loop-state.invariant c.in-Some.ensures.items)
-      c.in_ok-sources.ensures.size c.states.ensures c.as_slice.ensures.value c.index.ensures)
+    (state_inside c.args.table.now c.loop-state.marked.items c.loop-state.work.items c.pop.new.self.items c.in-Some.state c.loop-state.invariant c.in-Some.ensures.items)
+    c.in_ok-sources.ensures.size c.states.ensures c.as_slice.ensures.value c.index.ensures)
     (between_in c.args.table.now _ c.edges.ensures.value c.edges.ensures.between) c.loop-state.invariant.size
 
 pub loop-state-preserved : goal.loop-state-preserved
@@ -43,6 +43,6 @@ loop-state-preserved c =
     (sources_in c.args.table.now _ _ c.edges.ensures.value c.in_ok-sources.ensures.sources)
     (length-map c.in_ok-sources.sources.items vec_items ∙ c.in_ok-sources.ensures.size ∙ c.states.ensures)
     (row_in vec_items c.args.table.now c.in_ok-sources.sources.items _ c.in-Some.state c.index.result.now _
-      (state_inside c.args.table.now c.loop-state.marked.items c.loop-state.work.items c.pop.new.self.items c.in-Some.state c.loop-state.invariant c.in-Some.ensures.items)
-      c.in_ok-sources.ensures.size c.states.ensures c.as_slice.ensures.value c.index.ensures)
+    (state_inside c.args.table.now c.loop-state.marked.items c.loop-state.work.items c.pop.new.self.items c.in-Some.state c.loop-state.invariant c.in-Some.ensures.items)
+    c.in_ok-sources.ensures.size c.states.ensures c.as_slice.ensures.value c.index.ensures)
     (between_in c.args.table.now _ c.edges.ensures.value c.edges.ensures.between) c.loop-state.invariant c.in-Some.ensures.items c.in_ok-mark_all.ensures

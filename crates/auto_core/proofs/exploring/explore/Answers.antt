@@ -1,4 +1,4 @@
-use Rattle.std.proofs.Common.{◌≡◌, sym}
+use Rattle.std.proofs.Common.{sym}
 use Rattle.auto_core.proofs.ExploreAll.{all_begun, state_filed_in}
 use Rattle.auto_core.proofs.exploring.explore.Goals as goal
 

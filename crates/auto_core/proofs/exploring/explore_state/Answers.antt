@@ -1,9 +1,9 @@
-use Rattle.std.proofs.Common.{◌≡◌, ◌≤◌, Bool, true, Err, length, arith, sym}
+use Rattle.std.proofs.Common.{◌≡◌, Err, length, arith}
 use Rattle.std.specs.Bool.{Decides}
 use Rattle.std.proofs.lemmas.Result.{err_from_is_err_and}
 use Rattle.auto_core.specs.declared.exploring.TableError.TheVariants.{TooMany}
-use Rattle.auto_core.proofs.Once.{decides_by, Among-slice_get}
-use Rattle.auto_core.proofs.Steps.{All-among, too_many_after}
+use Rattle.auto_core.proofs.Once.{decides_by}
+use Rattle.auto_core.proofs.Steps.{too_many_after}
 use Rattle.auto_core.proofs.ExploreState.{state_begun, state_reached, state_taken, state_done}
 use Rattle.auto_core.proofs.exploring.explore_state.Goals as goal
 use Rattle.auto_core.proofs.exploring.explore_state.Given.{Over}

@@ -1,4 +1,4 @@
-use Rattle.std.proofs.Common.{◌≡◌, ◌∙◌, sym, ap, Some, List, [], ◌∷◌}
+use Rattle.std.proofs.Common.{◌∙◌, sym, ap, Some, List}
 use Rattle.auto_core.specs.declared.labels.Literal.{Literal}
 use Rattle.auto_core.specs.LiteralSets.{put_all}
 use Rattle.auto_core.proofs.LabelLemmas.{put_all-nil}

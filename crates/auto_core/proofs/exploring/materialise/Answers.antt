@@ -1,7 +1,5 @@
 use Rattle.std.proofs.Common.{◌≡◌, ◌<◌, ◌^◌, arith}
 use Rattle.std.specs.Bool.{Decides}
-use Rattle.auto_core.specs.Rows.{IsFiled}
-use Rattle.auto_core.specs.Graph.{IsGraphOf}
 use Rattle.auto_core.proofs.Once.{decides_by}
 use Rattle.auto_core.proofs.Reaching.{few_reached, filed_all, graph_all, same_words}
 use Rattle.auto_core.proofs.exploring.materialise.Goals as goal

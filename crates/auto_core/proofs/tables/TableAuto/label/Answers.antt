@@ -1,6 +1,4 @@
-use Rattle.std.proofs.Common.{◌≡◌, List}
 use Rattle.std.proofs.lemmas.Result.{on_ok_weaker}
-use Rattle.auto_core.specs.LiteralSets.{IsLabel, put_all}
 use Rattle.auto_core.proofs.LabelLemmas.{passes_by_edge}
 use Rattle.auto_core.proofs.RowLemmas.{edge_of_machine}
 use Rattle.auto_core.proofs.tables.TableAuto.label.Goals as goal
