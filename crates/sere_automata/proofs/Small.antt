@@ -14,7 +14,13 @@ use Rattle.automata_product.specs.Fuse.{fuse_machine, last_edges, joint_edges}
 use Rattle.automata_product.proofs.Places.{length-products}
 use Rattle.sere_automata.specs.declared.states.LeafState.{LeafState}
 use Rattle.sere_automata.specs.Leaf.{leaf_machine}
+use Rattle.sere_automata.specs.declared.states.LeafState.TheVariants.{Start, End}
+use Rattle.sere_automata.specs.declared.states.Choice.{Choice}
+use Rattle.sere_automata.specs.declared.states.Choice.TheVariants as choice
+use Rattle.sere_automata.specs.declared.states.Round.TheVariants as round
 use Rattle.sere_automata.specs.Concat.{concat_machine}
+use Rattle.sere_automata.specs.OneOf.{one_of_machine}
+use Rattle.sere_automata.specs.Repeat.{repeat_machine}
 
 filtered_le : {X : Type 0} (p : X → Bool) (xs : List X) → length (filter p xs) ≤ length xs
 filtered_le p xs = omega (arith, length-filter p xs, count_by-le-length p xs)
@@ -66,3 +72,40 @@ module _ (g : Graph) (label : List Literal) (small : length g.edges < 10000) whe
         length-append (map (renamed {U = Side ℕ LeafState} Left) ((graph_machine g).edges p))
             (cond ((graph_machine g).accepts p) (map (renamed {U = Side ℕ LeafState} Right) ((leaf_machine label).edges (leaf_machine label).start)) []),
       )
+
+pub fuse_leaves_small : (a b : List Literal) (p : Side LeafState LeafState) → length ((fuse_machine (leaf_machine a) (leaf_machine b)).edges p) < 2 ^ 64
+fuse_leaves_small a b (Left Start) = omega arith
+fuse_leaves_small a b (Left End) = omega arith
+fuse_leaves_small a b (Right Start) = omega arith
+fuse_leaves_small a b (Right End) = omega arith
+
+pub concat_leaves_small : (a b : List Literal) (p : Side LeafState LeafState) → length ((concat_machine (leaf_machine a) (leaf_machine b)).edges p) < 2 ^ 64
+concat_leaves_small a b (Left Start) = omega arith
+concat_leaves_small a b (Left End) = omega arith
+concat_leaves_small a b (Right Start) = omega arith
+concat_leaves_small a b (Right End) = omega arith
+
+pub composed_small : (a b c d : List Literal) (p q : Side LeafState LeafState) → length ((both_machine (fuse_machine (leaf_machine a) (leaf_machine b)) (concat_machine (leaf_machine c) (leaf_machine d))).edges (p, q)) < 2 ^ 64
+composed_small a b c d (Left Start) (Left Start) = omega arith
+composed_small a b c d (Left Start) (Left End) = omega arith
+composed_small a b c d (Left Start) (Right Start) = omega arith
+composed_small a b c d (Left Start) (Right End) = omega arith
+composed_small a b c d (Left End) (Left Start) = omega arith
+composed_small a b c d (Left End) (Left End) = omega arith
+composed_small a b c d (Left End) (Right Start) = omega arith
+composed_small a b c d (Left End) (Right End) = omega arith
+composed_small a b c d (Right Start) (Left Start) = omega arith
+composed_small a b c d (Right Start) (Left End) = omega arith
+composed_small a b c d (Right Start) (Right Start) = omega arith
+composed_small a b c d (Right Start) (Right End) = omega arith
+composed_small a b c d (Right End) (Left Start) = omega arith
+composed_small a b c d (Right End) (Left End) = omega arith
+composed_small a b c d (Right End) (Right Start) = omega arith
+composed_small a b c d (Right End) (Right End) = omega arith
+
+pub round_small : (a b : List Literal) (p : Choice LeafState LeafState) → length ((repeat_machine (one_of_machine (leaf_machine a) (leaf_machine b))).edges (round.Inner p)) < 2 ^ 64
+round_small a b choice.New = omega arith
+round_small a b (choice.Left Start) = omega arith
+round_small a b (choice.Left End) = omega arith
+round_small a b (choice.Right Start) = omega arith
+round_small a b (choice.Right End) = omega arith

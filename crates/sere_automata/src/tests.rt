@@ -67,6 +67,14 @@ fn composed(a: Leaf, b: Leaf, c: Leaf, d: Leaf) -> Both<Fuse<Leaf, Leaf>, Concat
     Both::new(Fuse::new(a, b), Concat::new(c, d))
 }
 
+fn composed_table(alloc: Global, a: Leaf, b: Leaf, c: Leaf, d: Leaf) -> Result<Table, TableError> {
+    materialise(alloc, &composed(a, b, c, d), 20)
+}
+
+fn one_again_and_again(alloc: Global, left: Leaf, right: Leaf) -> Result<Table, TableError> {
+    materialise(alloc, &Repeat::new(OneOf::new(left, right)), 20)
+}
+
 fn leaf_table(alloc: Global, literals: &[Literal]) -> Result<Table, TableError> {
     let leaf = Leaf::new(label_of(alloc, literals)?);
     materialise(alloc, &leaf, 2)
@@ -170,5 +178,36 @@ fn a_long_chain_has_a_state_more_than_edges(rt: HostRuntime) -> Result<(), Fail>
     assert_eq!(rt; table.states(), 1001);
     assert_eq!(rt; table.edges().len(), 1000);
     assert!(rt; are_all_alive(rt.alloc(), &table)?);
+    Ok(())
+}
+
+#[test]
+fn a_repeated_choice_takes_either_each_time(rt: HostRuntime) -> Result<(), Fail> {
+    let alloc = rt.alloc();
+    let table = one_again_and_again(alloc, leaf(alloc, 0)?, leaf(alloc, 1)?)?;
+    let a = Some([true, false, false]);
+    let b = Some([false, true, false]);
+    let c = Some([false, false, true]);
+    let start = table.start();
+    assert_eq!(rt; table.states(), 3);
+    assert!(rt; accepts_from(&table, start, &[]));
+    assert!(rt; accepts_from(&table, start, &[b, a, a, b]));
+    assert!(rt; !accepts_from(&table, start, &[a, c]));
+    Ok(())
+}
+
+#[test]
+fn one_letter_and_two_letters_have_no_list_in_common(rt: HostRuntime) -> Result<(), Fail> {
+    let alloc = rt.alloc();
+    let table = composed_table(
+        alloc,
+        leaf(alloc, 0)?,
+        leaf(alloc, 1)?,
+        leaf(alloc, 0)?,
+        leaf(alloc, 1)?,
+    )?;
+    let start = table.start();
+    assert!(rt; !accepts_from(&table, start, &[None]));
+    assert!(rt; !accepts_from(&table, start, &[None, None]));
     Ok(())
 }
