@@ -76,8 +76,10 @@ fn one_again_and_again(alloc: Global, left: Leaf, right: Leaf) -> Result<Table, 
 }
 
 fn leaf_table(alloc: Global, literals: &[Literal]) -> Result<Table, TableError> {
-    let leaf = Leaf::new(label_of(alloc, literals)?);
-    materialise(alloc, &leaf, 2)
+    let Ok(label) = label_of(alloc, literals) else {
+        return Err(TableError::OutOfMemory);
+    };
+    materialise(alloc, &Leaf::new(label), 2)
 }
 
 fn followed(alloc: Global, left: Table, right: Leaf) -> Result<Table, TableError>
@@ -123,7 +125,10 @@ fn two_steps(
 ) -> Result<Table, TableError> {
     let table = leaf_table(alloc, &[literal(first, true)])?;
     assert!(rt; table.edges().len() < 10000);
-    followed(alloc, table, leaf(alloc, second)?)
+    let Ok(second) = leaf(alloc, second) else {
+        return Err(TableError::OutOfMemory);
+    };
+    followed(alloc, table, second)
 }
 
 #[test]
