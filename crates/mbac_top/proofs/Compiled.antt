@@ -1,8 +1,7 @@
 -- A text that checks the unit of the names that are read is a right answer: no other unit has the same bytes.
 use Rattle.std.proofs.Common.{◌≡◌, ℕ, List, refl, subst, sym}
-use Rattle.psl_model.specs.Unit.{PslUnit}
 use Rattle.checker_meaning.specs.Headline.{ChecksUnit}
-use Rattle.mbac_top.specs.ThinForm.{IsThinForm, StandsForUnit, thin_unit}
+use Rattle.mbac_top.specs.ThinForm.{IsThinForm, thin_unit}
 use Rattle.mbac_top.specs.Compile.{IsCompiledTo}
 
 pub compiled_thin : (bytes name signal text : List ℕ) → IsThinForm bytes name signal →

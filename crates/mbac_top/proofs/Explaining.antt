@@ -1,13 +1,13 @@
 -- What the bytes of slot 0 decide, from the reason why a call ended.
-use Rattle.std.proofs.Common.{◌≡◌, ◌≢◌, ℕ, ◌<◌, ◌≤◌, List, [], length, refl, ap, arith, subst, sym, Some, None, inl, inr, ◌++◌}
-use Rattle.std.specs.Prelude.{Option, Result, Ok, Err, IfOk, IfErr, ◌⊎◌}
+use Rattle.std.proofs.Common.{◌≡◌, ℕ, ◌≤◌, List, length, refl, ap, arith, subst, sym, Some, None, inl, inr, ◌++◌}
+use Rattle.std.specs.Prelude.{Option, Result, Ok, Err, IfErr, ◌⊎◌}
 use Rattle.psl_model.specs.Limits.{unit_text_limit}
 use Rattle.psl_model.specs.Unit.{PslUnit}
-use Rattle.mbac_io.specs.Device.{WhereTold, TakesAll, TakesSome, Appends, AppendsPart, Rose}
+use Rattle.mbac_io.specs.Device.{WhereTold, TakesAll, TakesSome, Appends, AppendsPart}
 use Rattle.mbac_top.specs.declared.outcome.Cause.{Cause}
 use Rattle.mbac_top.specs.declared.outcome.Cause.TheVariants.{Done, Usage, ReadFault, WriteFault, OutOfMemory, InputTooLong, Unbuilt}
 use Rattle.mbac_top.specs.ThinForm.{StandsForUnit}
-use Rattle.mbac_top.specs.Compile.{IsTooLong, IsUnbuilt, IsBuilt, IsCompiledTo}
+use Rattle.mbac_top.specs.Compile.{IsTooLong, IsUnbuilt, IsBuilt}
 use Rattle.mbac_top.specs.Explained.{Change, IsShortAnd, IsWhyUncompiled, IsWhyUnread, WritesAnswer, IsExplained}
 
 -- a fact where told gives what follows from it

@@ -1,15 +1,14 @@
 -- The text of the negation checker checks a unit in the thin form.
-use Rattle.std.proofs.Common.{◌≡◌, ℕ, zero, suc, ◌<◌, List, [], ◌∷◌, ◌++◌, length, refl, ap, sym, ◌∙◌, arith, append-nil, append_assoc}
-use Rattle.std.specs.Prelude.{◌≢◌, Option, None, All, AllPairs, slice_get, IfSome, flat_map, map, codes, decimal}
+use Rattle.std.proofs.Common.{◌≡◌, ℕ, zero, suc, List, [], ◌∷◌, ◌++◌, refl, ap, sym, ◌∙◌, arith, append-nil, append_assoc}
+use Rattle.std.specs.Prelude.{◌≢◌, All, AllPairs, codes, decimal}
 use Rattle.std.proofs.lemmas.Fmt.{decimal_digit}
 use Rattle.psl_model.specs.declared.names.Signal.{Signal}
 use Rattle.psl_model.specs.Expr.{whole}
 use Rattle.psl_model.specs.Formula.{bool, always}
-use Rattle.psl_model.specs.Names.{IsReport}
-use Rattle.verilog_text.specs.Module.{Module, Register, Wire, IsLawful, IsPort, IsRegister, IsWire, IsExpression}
-use Rattle.verilog_text.specs.Text.{spelling, StandsForModules}
+use Rattle.verilog_text.specs.Module.{Module, IsLawful, IsPort}
+use Rattle.verilog_text.specs.Text.{spelling}
 use Rattle.checker_meaning.specs.Checks.{Checks}
-use Rattle.checker_meaning.specs.Headline.{ChecksUnit, IsCheckerOf}
+use Rattle.checker_meaning.specs.Headline.{ChecksUnit}
 use Rattle.checker_meaning.specs.NegationChecker.{negation_checker}
 use Rattle.mbac_top.specs.ThinForm.{IsThinName, thin_unit}
 use Rattle.mbac_top.specs.ThinChecker.{thin_module_name, thin_port}

@@ -1,5 +1,5 @@
 -- What `compile` answers, over the bytes of slot 0.
-use Rattle.std.specs.Prelude.{◌≡◌, ℕ, ◌<◌, ◌≤◌, List, length}
+use Rattle.std.specs.Prelude.{ℕ, ◌<◌, ◌≤◌, List, length}
 use Rattle.psl_model.specs.Limits.{unit_text_limit}
 use Rattle.psl_model.specs.Unit.{PslUnit}
 use Rattle.checker_meaning.specs.Headline.{IsCompiled}

@@ -1,5 +1,5 @@
 -- What the reader of the thin form gives of a text, step by step. What it is worth is `ThinForm`.
-use Rattle.std.specs.Prelude.{ℕ, Bool, true, false, ◌≤◌, nat_le, nat_eq, ◌==◌, not, List, [], ◌∷◌, length, take, drop, codes, Option, Some, None, if◌then◌else◌, option_and_then}
+use Rattle.std.specs.Prelude.{ℕ, nat_le, nat_eq, ◌==◌, List, [], ◌∷◌, length, take, drop, codes, Option, Some, None, if◌then◌else◌}
 use Rattle.std.specs.List.{prefix_len}
 use Rattle.std.specs.Cmp.Lexicographic.{pointwise}
 use Rattle.psl_model.specs.Names.{between}

@@ -2,7 +2,7 @@
 -- IEEE 1850-2010, 4.1.
 --     IsThinForm bytes name signal     the bytes spell the thin form of a unit of this name, over this signal
 --     StandsForUnit bytes unit         the bytes stand for the unit
-use Rattle.std.specs.Prelude.{◌≡◌, ◌≢◌, ◌≤◌, ℕ, Bool, true, false, ◌==◌, ◌||◌, List, [], ◌∷◌, ◌++◌, length, codes, None, IsTrue}
+use Rattle.std.specs.Prelude.{◌≡◌, ◌≢◌, ◌≤◌, ℕ, Bool, ◌==◌, ◌||◌, List, [], ◌∷◌, ◌++◌, length, codes, None, IsTrue}
 use Rattle.std.specs.List.{list_all}
 use Rattle.psl_model.specs.Expr.{whole}
 use Rattle.psl_model.specs.Formula.{bool, always}

@@ -1,0 +1,12 @@
+pub mod ExploreAll
+pub mod ExploreState
+pub mod LabelLemmas
+pub mod LabelOrder
+pub mod Marking
+pub mod Members
+pub mod Once
+pub mod PutSearch
+pub mod Reaching
+pub mod RowLemmas
+pub mod SameLabel
+pub mod Steps

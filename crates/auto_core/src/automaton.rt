@@ -1,0 +1,94 @@
+//! What every automaton offers.
+
+ghost use Rattle.std.specs.Prelude.{◌≡◌, ◌<◌, ◌↔◌, true, List, Some, length, slice_get, Contains, OnOk, OnErr};
+ghost use Rattle.auto_core.specs.LiteralSets.{IsLabel, put_all};
+ghost use Rattle.auto_core.specs.Machine.{Machine, Letter, Passes};
+ghost use Rattle.auto_core.specs.declared.labels.Literal.{Literal};
+
+use crate::labels::Label;
+use std::alloc::AllocError;
+use std::hash::Hash;
+
+/// An automaton over labels, whose states and edges are reckoned as they are asked for.
+///
+/// A state that is passed in is one of the automaton's own, and a place is below the number of that state's edges.
+pub trait Auto {
+    type State: Copy + Eq + Hash;
+
+    // The automaton as plain data.
+    ghost machine: { Self → Machine Self.State };
+
+    // Which states are the automaton's own.
+    ghost own: { Self → Self.State → Type 0 };
+
+    // The number of edges of each own state fits a `usize`, in all parts too.
+    ghost fits: { Self → Type 0 };
+
+    fn start(&self) -> Self::State
+        requires { fits self.now }
+        ensures value { result ≡ (machine self.now).start }
+        ensures owned { own self.now result };
+
+    fn accepts(&self, state: Self::State) -> bool
+        requires fit { fits self.now }
+        requires owned { own self.now state }
+        ensures { result ≡ (machine self.now).accepts state };
+
+    /// How many edges leave the state, equal ones counted as often as they come.
+    fn edge_count(&self, state: Self::State) -> usize
+        requires fit { fits self.now }
+        requires owned { own self.now state }
+        ensures { result ≡ length ((machine self.now).edges state) };
+
+    /// The state that the edge at this place leads to.
+    fn target(&self, state: Self::State, place: usize) -> Self::State
+        requires fit { fits self.now }
+        requires owned { own self.now state }
+        requires there { place < length ((machine self.now).edges state) }
+        ensures edge { (label : List Literal) × (slice_get ((machine self.now).edges state) place ≡ Some (label, result)) }
+        ensures owned { own self.now result };
+
+    /// Puts the literals of the edge at this place into `onto`. After want of memory some of them may be there, beside all that were.
+    fn label(&self, state: Self::State, place: usize, onto: &mut Label) -> Result<(), AllocError>
+        requires fit { fits self.now }
+        requires owned { own self.now state }
+        requires there { place < length ((machine self.now).edges state) }
+        ensures edge { OnOk result ((label : List Literal) × (next : Self.State) × (slice_get ((machine self.now).edges state) place ≡ Some (label, next)) × IsLabel label × (onto.new ≡ put_all label onto.old)) }
+        ensures passes { OnOk result ((label : List Literal) × (next : Self.State) × (slice_get ((machine self.now).edges state) place ≡ Some (label, next)) × ((a : Letter) → Passes onto.new a ↔ (Passes label a × Passes onto.old a))) }
+        ensures kept { (l : Literal) → Contains onto.old l → Contains onto.new l };
+
+    // Two states for which `==` answers true are the same state.
+    ghost same: { (x y : Self.State) → Self.State.eq x y ≡ true → x ≡ y };
+}
+
+impl<A: Auto> Auto for &A {
+    type State = A::State;
+
+    ghost machine = { λ a. A.machine a.now };
+
+    ghost own = { λ a. A.own a.now };
+
+    ghost fits = { λ a. A.fits a.now };
+
+    fn start(&self) -> A::State {
+        A::start(*self)
+    }
+
+    fn accepts(&self, state: A::State) -> bool {
+        A::accepts(*self, state)
+    }
+
+    fn edge_count(&self, state: A::State) -> usize {
+        A::edge_count(*self, state)
+    }
+
+    fn target(&self, state: A::State, place: usize) -> A::State {
+        A::target(*self, state, place)
+    }
+
+    fn label(&self, state: A::State, place: usize, onto: &mut Label) -> Result<(), AllocError> {
+        A::label(*self, state, place, onto)
+    }
+
+    ghost same = { A.same };
+}

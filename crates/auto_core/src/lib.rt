@@ -1,0 +1,17 @@
+//! Automata over labels: labels, the trait that every automaton implements, tables, and from which states a table accepts.
+#![tactic(auto)]
+
+mod aliveness;
+mod automaton;
+mod exploring;
+mod labels;
+mod tables;
+
+pub use aliveness::{Marks, alive};
+pub use automaton::Auto;
+pub use exploring::{TableError, materialise};
+pub use labels::{Label, Literal};
+pub use tables::{Edge, Table};
+
+#[cfg(test)]
+mod tests;

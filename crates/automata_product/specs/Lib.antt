@@ -1,0 +1,5 @@
+pub mod Edges
+pub mod Both
+pub mod Fuse
+pub mod Same
+pub mod Sides

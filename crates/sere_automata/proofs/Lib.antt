@@ -1,0 +1,7 @@
+pub mod LeafWords
+pub mod ConcatWords
+pub mod OneOfWords
+pub mod RepeatWords
+pub mod Follow
+pub mod LeafPlaces
+pub mod Small

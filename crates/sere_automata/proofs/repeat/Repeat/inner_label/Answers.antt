@@ -1,0 +1,24 @@
+use Rattle.std.proofs.Common.{◌-◌, subst}
+use Rattle.std.proofs.lemmas.Result.{on_ok_weaker}
+use Rattle.automata_product.specs.Edges.{PutsEdge}
+use Rattle.sere_automata.specs.declared.states.Round.TheVariants.{Inner}
+use Rattle.sere_automata.proofs.Follow.{follow_within, follow_puts_first, follow_puts_then}
+use Rattle.sere_automata.proofs.repeat.Repeat.inner_label.Goals as goal
+
+pub returns-then-place-count-clause-edge : goal.returns-then-place-count-clause-edge
+returns-then-place-count-clause-edge g c =
+    on_ok_weaker c.label.result
+    (follow_puts_first Inner Inner ((g.A.Auto.machine c.args.self.now.inner).edges c.args.state) ((g.A.Auto.machine c.args.self.now.inner).edges (g.A.Auto.machine c.args.self.now.inner).start)
+    ((g.A.Auto.machine c.args.self.now.inner).accepts c.args.state) c.args.place c.args.onto.now c.label.new.onto)
+    c.label.ensures.edge
+
+pub returns-else-place-count-clause-edge : goal.returns-else-place-count-clause-edge
+returns-else-place-count-clause-edge g c =
+    let after = follow_within Inner Inner ((g.A.Auto.machine c.args.self.now.inner).edges c.args.state) ((g.A.Auto.machine c.args.self.now.inner).edges (g.A.Auto.machine c.args.self.now.inner).start)
+    ((g.A.Auto.machine c.args.self.now.inner).accepts c.args.state) c.edge_count-count.result c.args.place c.edge_count-count.ensures c.if-place-count.false c.requires.there in
+    on_ok_weaker c.label-else-place-count.result
+    (λ h. follow_puts_then Inner Inner ((g.A.Auto.machine c.args.self.now.inner).edges c.args.state) ((g.A.Auto.machine c.args.self.now.inner).edges (g.A.Auto.machine c.args.self.now.inner).start)
+    ((g.A.Auto.machine c.args.self.now.inner).accepts c.args.state) c.edge_count-count.result c.args.place c.args.onto.now c.label-else-place-count.new.onto
+    after.0 c.edge_count-count.ensures c.if-place-count.false
+    (subst (λ s. PutsEdge ((g.A.Auto.machine c.args.self.now.inner).edges s) (c.args.place - c.edge_count-count.result) c.args.onto.now c.label-else-place-count.new.onto) c.start-start.ensures.value h))
+    c.label-else-place-count.ensures.edge

@@ -1,0 +1,213 @@
+//! That the calls succeed with ample memory, small tables by their numbers, and one long chain for its time.
+
+ghost use Rattle.std.specs.Prelude.{◌≡◌, ◌<◌, ◌↔◌, List, length};
+ghost use Rattle.auto_core.specs.Machine.{Letter, Accepts};
+ghost use Rattle.auto_core.specs.Splits.{IsConcatenation, IsFusion};
+
+use super::*;
+use auto_core::{Auto, Label, Literal, Table, TableError, alive, materialise};
+use automata_product::{Both, Fuse};
+use std::alloc::{AllocError, Global};
+use std::process::Abort;
+use std::test::Fail;
+
+// What three symbols are in a cycle; none is a top.
+type Shown = Option<[bool; 3]>;
+
+fn label_of(alloc: Global, literals: &[Literal]) -> Result<Label, AllocError> {
+    let mut label = Label::new(alloc);
+    for literal in literals {
+        label.put(*literal)?;
+    }
+    Ok(label)
+}
+
+fn leaf(alloc: Global, symbol: usize) -> Result<Leaf, AllocError> {
+    Ok(Leaf::new(label_of(
+        alloc,
+        &[Literal {
+            symbol,
+            positive: true,
+        }],
+    )?))
+}
+
+fn passes(label: &Label, shown: Shown) -> bool {
+    match shown {
+        None => true,
+        Some(values) => label.literals().iter().all(|literal| values.get(literal.symbol)
+            == Some(&literal.positive)),
+    }
+}
+
+// Whether a path from the state to an accepting state reads the letters.
+fn accepts_from(table: &Table, state: u32, letters: &[Shown]) -> bool
+    requires { state < length table.now.accepting }
+{
+    match letters {
+        [] => table.accepts(state),
+        [first, rest @ ..] => {
+            for edge in table.edges() {
+                if edge.from == state
+                    && passes(&edge.label, *first)
+                    && accepts_from(table, edge.to, rest)
+                {
+                    return true;
+                }
+            }
+            false
+        }
+    }
+}
+
+// The words of a composed automaton, by the clauses of the constructors alone.
+fn composed(a: Leaf, b: Leaf, c: Leaf, d: Leaf) -> Both<Fuse<Leaf, Leaf>, Concat<Leaf, Leaf>>
+    ensures { (w : List Letter) → Accepts (⟦<Both<Fuse<Leaf, Leaf>, Concat<Leaf, Leaf>> as Auto>⟧.machine result) w ↔ (IsFusion (Accepts (⟦<Leaf as Auto>⟧.machine a)) (Accepts (⟦<Leaf as Auto>⟧.machine b)) w × IsConcatenation (Accepts (⟦<Leaf as Auto>⟧.machine c)) (Accepts (⟦<Leaf as Auto>⟧.machine d)) w) }
+{
+    Both::new(Fuse::new(a, b), Concat::new(c, d))
+}
+
+fn composed_table(alloc: Global, a: Leaf, b: Leaf, c: Leaf, d: Leaf) -> Result<Table, TableError> {
+    materialise(alloc, &composed(a, b, c, d), 20)
+}
+
+fn one_again_and_again(alloc: Global, left: Leaf, right: Leaf) -> Result<Table, TableError> {
+    materialise(alloc, &Repeat::new(OneOf::new(left, right)), 20)
+}
+
+fn leaf_table(alloc: Global, literals: &[Literal]) -> Result<Table, TableError> {
+    let leaf = Leaf::new(label_of(alloc, literals)?);
+    materialise(alloc, &leaf, 2)
+}
+
+fn followed(alloc: Global, left: Table, right: Leaf) -> Result<Table, TableError>
+    requires { length left.edges < 10000 }
+{
+    materialise(alloc, &Concat::new(left, right), 2000)
+}
+
+fn overlapped(alloc: Global, left: Table, right: Table) -> Result<Table, TableError>
+    requires left { length left.edges < 10000 }
+    requires right { length right.edges < 10000 }
+{
+    materialise(alloc, &Fuse::new(left, right), 2000)
+}
+
+fn together(alloc: Global, left: Table, right: Table) -> Result<Table, TableError>
+    requires left { length left.edges < 10000 }
+    requires right { length right.edges < 10000 }
+{
+    materialise(alloc, &Both::new(left, right), 2000)
+}
+
+fn are_all_alive(alloc: Global, table: &Table) -> Result<bool, AllocError> {
+    let marks = alive(alloc, table)?;
+    for state in 0..table.states() {
+        if !marks.get(state) {
+            return Ok(false);
+        }
+    }
+    Ok(true)
+}
+
+fn literal(symbol: usize, positive: bool) -> Literal {
+    Literal { symbol, positive }
+}
+
+// Two steps, each with one symbol.
+fn two_steps(
+    rt: &impl Abort,
+    alloc: Global,
+    first: usize,
+    second: usize,
+) -> Result<Table, TableError> {
+    let table = leaf_table(alloc, &[literal(first, true)])?;
+    assert!(rt; table.edges().len() < 10000);
+    followed(alloc, table, leaf(alloc, second)?)
+}
+
+#[test]
+fn a_step_that_nothing_passes_is_alive(rt: HostRuntime) -> Result<(), Fail> {
+    let table = leaf_table(rt.alloc(), &[literal(0, true)])?;
+    assert!(rt; table.edges().len() < 10000);
+    let never = Leaf::new(label_of(rt.alloc(), &[literal(1, true), literal(1, false)])?);
+    let table = followed(rt.alloc(), table, never)?;
+    assert_eq!(rt; table.states(), 3);
+    assert!(rt; are_all_alive(rt.alloc(), &table)?);
+    Ok(())
+}
+
+#[test]
+fn a_fusion_overlaps_in_one_letter(rt: HostRuntime) -> Result<(), Fail> {
+    let left = two_steps(&rt, rt.alloc(), 0, 1)?;
+    let right = two_steps(&rt, rt.alloc(), 1, 2)?;
+    assert!(rt; left.edges().len() < 10000 && right.edges().len() < 10000);
+    let table = overlapped(rt.alloc(), left, right)?;
+    let a = Some([true, false, false]);
+    let b = Some([false, true, false]);
+    let c = Some([false, false, true]);
+    let start = table.start();
+    assert!(rt; accepts_from(&table, start, &[a, b, c]));
+    assert!(rt; accepts_from(&table, start, &[None, None, None]));
+    assert!(rt; !accepts_from(&table, start, &[a, c, b]));
+    assert!(rt; !accepts_from(&table, start, &[a, b, b, c]));
+    assert!(rt; !accepts_from(&table, start, &[None, None, None, None]));
+    Ok(())
+}
+
+#[test]
+fn opposite_signs_pass_a_top_alone(rt: HostRuntime) -> Result<(), Fail> {
+    let left = leaf_table(rt.alloc(), &[literal(0, true)])?;
+    let right = leaf_table(rt.alloc(), &[literal(0, false)])?;
+    assert!(rt; left.edges().len() < 10000 && right.edges().len() < 10000);
+    let table = together(rt.alloc(), left, right)?;
+    let start = table.start();
+    assert!(rt; accepts_from(&table, start, &[None]));
+    assert!(rt; !accepts_from(&table, start, &[Some([true, false, false])]));
+    assert!(rt; !accepts_from(&table, start, &[Some([false, true, true])]));
+    Ok(())
+}
+
+#[test]
+fn a_long_chain_has_a_state_more_than_edges(rt: HostRuntime) -> Result<(), Fail> {
+    let mut table = leaf_table(rt.alloc(), &[literal(0, true)])?;
+    for step in 1..1000 {
+        assert!(rt; table.edges().len() < 10000);
+        table = followed(rt.alloc(), table, leaf(rt.alloc(), step % 3)?)?;
+    }
+    assert_eq!(rt; table.states(), 1001);
+    assert_eq!(rt; table.edges().len(), 1000);
+    assert!(rt; are_all_alive(rt.alloc(), &table)?);
+    Ok(())
+}
+
+#[test]
+fn a_repeated_choice_takes_either_each_time(rt: HostRuntime) -> Result<(), Fail> {
+    let alloc = rt.alloc();
+    let table = one_again_and_again(alloc, leaf(alloc, 0)?, leaf(alloc, 1)?)?;
+    let a = Some([true, false, false]);
+    let b = Some([false, true, false]);
+    let c = Some([false, false, true]);
+    let start = table.start();
+    assert_eq!(rt; table.states(), 3);
+    assert!(rt; accepts_from(&table, start, &[]));
+    assert!(rt; accepts_from(&table, start, &[b, a, a, b]));
+    assert!(rt; !accepts_from(&table, start, &[a, c]));
+    Ok(())
+}
+
+#[test]
+fn one_letter_and_two_letters_have_no_list_in_common(rt: HostRuntime) -> Result<(), Fail> {
+    let alloc = rt.alloc();
+    let table = composed_table(
+        alloc,
+        leaf(alloc, 0)?,
+        leaf(alloc, 1)?,
+        leaf(alloc, 0)?,
+        leaf(alloc, 1)?,
+    )?;
+    let start = table.start();
+    assert!(rt; !accepts_from(&table, start, &[None]));
+    assert!(rt; !accepts_from(&table, start, &[None, None]));
+    Ok(())
+}
