@@ -1,5 +1,5 @@
 -- Bytes that grew twice have grown.
-use Rattle.std.proofs.Common.{◌≡◌, ℕ, List, [], ◌++◌, ap, ◌∙◌, append_assoc, sym}
+use Rattle.std.proofs.Common.{ℕ, List, [], ◌++◌, ap, ◌∙◌, append_assoc, sym}
 use Rattle.std.proofs.lemmas.List.{append-nil}
 use Rattle.verilog_text.specs.Growth.{Extends}
 

@@ -1,15 +1,14 @@
 -- The small checker is lawful, and its output is the negation of its port.
-use Rattle.std.proofs.Common.{◌≡◌, ℕ, zero, suc, ◌+◌, ◌%◌, ◌^◌, ◌<◌, ◌≤◌, ◌++◌, Bool, true, false, List, [], ◌∷◌, length, refl, ap, sym, ◌∙◌, arith, get_or}
-use Rattle.std.specs.Prelude.{◌≢◌, ◌==◌, not, bytes_eq, Contains, codes, All, AllPairs, Option, IfSome, slice_get}
+use Rattle.std.proofs.Common.{◌≡◌, ℕ, zero, suc, ◌%◌, ◌^◌, ◌++◌, Bool, true, List, [], ◌∷◌, refl, ap, ◌∙◌, arith, get_or}
+use Rattle.std.specs.Prelude.{◌≢◌, ◌==◌, not, bytes_eq, Contains, codes, All, AllPairs, IfSome, slice_get}
 use Rattle.std.specs.List.{list_all}
 use Rattle.std.proofs.lemmas.List.Elements.{All-contains}
 use Rattle.std.proofs.lemmas.List.Sums.{AllPass-from_list_all}
-use Rattle.psl_model.specs.declared.names.Signal.{Signal}
 use Rattle.psl_model.specs.Reserved.{language_words, left_out_words, verilog_words}
 use Rattle.psl_model.specs.Names.{IsUsableName}
 use Rattle.psl_model.specs.Value.{bit_of}
-use Rattle.verilog_text.specs.Module.{Module, Register, Wire, IsLawful, IsPort, IsRegister, IsWire, IsExpression}
-use Rattle.verilog_text.specs.Run.{Cycle, IsSettled, IsRunFromReset, HasInputs, fail_stream}
+use Rattle.verilog_text.specs.Module.{IsLawful, IsPort, IsRegister, IsWire}
+use Rattle.verilog_text.specs.Run.{Cycle, IsSettled, IsRunFromReset, fail_stream}
 use Rattle.verilog_text.specs.Examples.{small_checker, one_then_zero}
 
 one : {X : Type 0} (P : X → Type 0) (x : X) → P x → All P (x ∷ [])

@@ -1,9 +1,8 @@
 -- A small checker, its text and a run of it.
 use Rattle.std.specs.Prelude.{ℕ, List, [], ◌∷◌, ◌++◌, None, codes}
-use Rattle.psl_model.specs.declared.names.Signal.{Signal}
 use Rattle.psl_model.specs.declared.operators.UnOp.TheVariants.{Not, AnyOne}
 use Rattle.psl_model.specs.Expr.{whole, sized, unary}
-use Rattle.verilog_text.specs.Module.{Module, Register, Wire}
+use Rattle.verilog_text.specs.Module.{Module}
 use Rattle.verilog_text.specs.Text.{line}
 use Rattle.verilog_text.specs.Run.{Cycle}
 

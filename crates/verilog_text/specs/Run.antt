@@ -4,8 +4,7 @@
 --     IsRunFromReset m inputs eots reset cycles     a run from any registers: a cycle of reset, then the cycles of the inputs
 --     fail_stream cycles                the output, cycle by cycle
 --     RisesBy stream n                  the output is 1 in some cycle up to n
-use Rattle.std.specs.Prelude.{◌≡◌, ◌≢◌, ℕ, suc, ◌<◌, ◌≤◌, ◌^◌, ◌%◌, max, List, [], ◌∷◌, ◌++◌, map, slice_get, Some}
-use Rattle.std.specs.List.{AllByRecursion}
+use Rattle.std.specs.Prelude.{◌≡◌, ℕ, ◌<◌, ◌≤◌, ◌^◌, ◌%◌, max, List, [], ◌∷◌, ◌++◌, map, slice_get, Some}
 use Rattle.psl_model.specs.declared.names.Signal.{Signal}
 use Rattle.psl_model.specs.Expr.{Expr, whole, sized, choice}
 use Rattle.psl_model.specs.Value.{width_of, value_of}

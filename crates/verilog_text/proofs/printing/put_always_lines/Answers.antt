@@ -1,4 +1,3 @@
-use Rattle.std.proofs.Common.{ℕ}
 use Rattle.verilog_text.specs.Module.{names_of}
 use Rattle.verilog_text.specs.Text.{always_line}
 use Rattle.verilog_text.specs.View.{register_of, module_of}

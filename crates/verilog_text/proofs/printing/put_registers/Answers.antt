@@ -1,4 +1,3 @@
-use Rattle.std.proofs.Common.{ℕ}
 use Rattle.verilog_text.specs.Text.{register_line}
 use Rattle.verilog_text.specs.View.{register_of}
 use Rattle.verilog_text.proofs.Growth.{extends_twice}

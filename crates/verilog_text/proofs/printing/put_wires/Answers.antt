@@ -1,4 +1,3 @@
-use Rattle.std.proofs.Common.{ℕ}
 use Rattle.verilog_text.specs.Module.{names_of}
 use Rattle.verilog_text.specs.Text.{wire_line}
 use Rattle.verilog_text.specs.View.{wire_of, module_of}
