@@ -75,11 +75,9 @@ fn one_again_and_again(alloc: Global, left: Leaf, right: Leaf) -> Result<Table, 
     materialise(alloc, &Repeat::new(OneOf::new(left, right)), 20)
 }
 
-fn leaf_table(alloc: Global, literals: &[Literal]) -> Result<Table, TableError> {
-    let Ok(label) = label_of(alloc, literals) else {
-        return Err(TableError::OutOfMemory);
-    };
-    materialise(alloc, &Leaf::new(label), 2)
+fn leaf_table(alloc: Global, literals: &[Literal]) -> Result<Table, Fail> {
+    let leaf = Leaf::new(label_of(alloc, literals)?);
+    Ok(materialise(alloc, &leaf, 2)?)
 }
 
 fn followed(alloc: Global, left: Table, right: Leaf) -> Result<Table, TableError>
@@ -117,18 +115,10 @@ fn literal(symbol: usize, positive: bool) -> Literal {
 }
 
 // Two steps, each with one symbol.
-fn two_steps(
-    rt: &impl Abort,
-    alloc: Global,
-    first: usize,
-    second: usize,
-) -> Result<Table, TableError> {
+fn two_steps(rt: &impl Abort, alloc: Global, first: usize, second: usize) -> Result<Table, Fail> {
     let table = leaf_table(alloc, &[literal(first, true)])?;
     assert!(rt; table.edges().len() < 10000);
-    let Ok(second) = leaf(alloc, second) else {
-        return Err(TableError::OutOfMemory);
-    };
-    followed(alloc, table, second)
+    Ok(followed(alloc, table, leaf(alloc, second)?)?)
 }
 
 #[test]
