@@ -1,7 +1,8 @@
 -- What the runs of the negation checker are: its output is the negation of its port, cycle by cycle.
-use Rattle.std.proofs.Common.{◌≡◌, ℕ, zero, suc, ◌+◌, ◌%◌, ◌^◌, ◌<◌, ◌≤◌, ◌↔◌, ◌++◌, Bool, true, false, cond, List, [], ◌∷◌, map, length, take, refl, ap, sym, ◌∙◌, arith, subst, Some, get_or}
+use Rattle.std.proofs.Common.{◌≡◌, ℕ, zero, suc, ◌%◌, ◌^◌, ◌<◌, ◌≤◌, ◌↔◌, ◌++◌, Bool, true, false, cond, List, [], ◌∷◌, map, length, take, refl, ap, sym, ◌∙◌, arith, subst, Some, get_or}
 use Rattle.std.specs.Prelude.{◌==◌, slice_get, slice_index, Any, Contains}
 use Rattle.std.proofs.lemmas.Bool.Decides.{nat_tests}
+use Rattle.std.proofs.lemmas.Nat.{pow_pos}
 use Rattle.std.specs.List.{AllByRecursion}
 use Rattle.psl_model.specs.declared.names.Signal.{Signal}
 use Rattle.psl_model.specs.Expr.{Expr, whole}
@@ -122,3 +123,51 @@ checks weakly neutrally name port = record {
         λ violates. subst (λ s. Contains s 1) (sym stream) (one_of_any trace (law.0 violates)),
       );
 }
+
+-- a cycle after reset, with these values of the signals
+abbrev cycle_of : Valuation → (eot : ℕ) → Cycle
+cycle_of values eot = record {
+  reset = 0;
+  end_of_execution = eot;
+  ports = values_at (0 ∷ []) values;
+  registers = [];
+  wires = [];
+  fail = cond (slice_index values 0 == 0) 1 0 % 2 ^ 1;
+}
+
+abbrev cycles_of : List Valuation → (eots : List ℕ) → List Cycle
+cycles_of [] eots = []
+cycles_of (values ∷ trace) [] = []
+cycles_of (values ∷ trace) (eot ∷ eots) = cycle_of values eot ∷ cycles_of trace eots
+
+-- the cycle of reset, with the port at 0
+abbrev reset_cycle : Cycle
+reset_cycle = record { reset = 1; end_of_execution = 0; ports = 0 ∷ []; registers = []; wires = []; fail = 1 }
+
+goes_on : (trace : List Valuation) (eots : List ℕ) → length eots ≡ length trace → HaveInputs (map (values_at (0 ∷ [])) trace) eots (cycles_of trace eots)
+goes_on [] [] same = tt
+goes_on [] (eot ∷ eots) same = absurd (omega arith)
+goes_on (values ∷ trace) [] same = absurd (omega arith)
+goes_on (values ∷ trace) (eot ∷ eots) same =
+    let less : length eots ≡ length trace = omega arith in
+    (record { reset = refl; end_of_execution = refl; ports = refl }, goes_on trace eots less)
+
+runs : (name : List ℕ) (port : Signal) (trace : List Valuation) (eots : List ℕ) (c : Cycle) → IsSettled (negation_checker name port) c →
+    IsRun (negation_checker name port) (c ∷ cycles_of trace eots)
+runs name port [] eots c settled = settled
+runs name port (values ∷ trace) [] c settled = settled
+runs name port (values ∷ trace) (eot ∷ eots) c settled =
+    (settled, refl, runs name port trace eots (cycle_of values eot) (record { wires = refl; fail = refl }))
+
+-- the checker has a run over each trace
+pub has_run : (name : List ℕ) (port : Signal) (trace : List Valuation) (eots : List ℕ) → length eots ≡ length trace →
+    (reset : Cycle) × (cycles : List Cycle) × IsRunFromReset (negation_checker name port) (map (values_at (0 ∷ [])) trace) eots reset cycles
+has_run name port trace eots same = (
+  reset_cycle,
+  cycles_of trace eots,
+  record {
+    run = runs name port trace eots reset_cycle (record { wires = refl; fail = refl });
+    begins = record { reset = refl; end_of_execution = omega arith; ports = (pow_pos port.width, tt); registers = tt };
+    goes_on = goes_on trace eots same;
+  },
+)

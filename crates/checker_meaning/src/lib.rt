@@ -1,11 +1,13 @@
 //! What it means that a module checks a formula. The functions do nothing: each contract is a law.
 #![tactic(auto)]
 
-ghost use Rattle.std.specs.Prelude.{ℕ, List, [], ◌∷◌};
+ghost use Rattle.std.specs.Prelude.{◌≡◌, ℕ, List, [], ◌∷◌, length, map};
 ghost use Rattle.psl_model.specs.declared.names.Signal.{Signal};
 ghost use Rattle.psl_model.specs.Expr.{whole};
 ghost use Rattle.psl_model.specs.Formula.{bool, always};
-ghost use Rattle.checker_meaning.specs.Checks.{Checks};
+ghost use Rattle.psl_meaning.specs.Word.{Valuation};
+ghost use Rattle.verilog_text.specs.Run.{Cycle, IsRunFromReset};
+ghost use Rattle.checker_meaning.specs.Checks.{Checks, values_at};
 ghost use Rattle.checker_meaning.specs.NegationChecker.{negation_checker};
 
 use psl_meaning::laws::{always_is_violated, always_is_weakly_violated};
@@ -18,3 +20,10 @@ pub fn negation_checks_always()
     always_is_weakly_violated();
     always_is_violated();
 }
+
+/// The checker has a run from reset over each trace, and for any values of `mbac_eot`, so the law above speaks of something.
+pub fn negation_checker_runs()
+    ensures { (name : List ℕ) (port : Signal) (trace : List Valuation) (eots : List ℕ) → length eots ≡ length trace →
+        (reset : Cycle) × (cycles : List Cycle) ×
+        IsRunFromReset (negation_checker name port) (map (values_at (0 ∷ [])) trace) eots reset cycles }
+{}
