@@ -5,6 +5,7 @@ use crate::device::{Failed, Inputs};
 use crate::slot_faults::SlotFaults;
 use std::fs;
 use std::io::Read;
+use std::marker::Model;
 use std::rt::Files;
 
 /// The files of a command, named by words: slot 0 reads the first, slot 1 the second.
@@ -24,6 +25,15 @@ enum Source<'a, F> {
     Absent,
     Named(&'a str),
     Open(F),
+}
+
+// Contracts see its counts of faults alone.
+impl<'a, R: Files> Model for StdInputs<'a, R> {
+    ghost use Rattle.mbac_io.specs.declared.slot_faults.SlotFaults as counts;
+
+    ghost Value = { counts.SlotFaults };
+
+    ghost view = { λ inputs. inputs.faults };
 }
 
 impl<'a, R: Files> StdInputs<'a, R> {
@@ -68,7 +78,7 @@ impl<R: Files> Inputs for StdInputs<'_, R> {
 
     ghost left = { λ inputs slot. None };
 
-    ghost faults = { λ inputs slot. faults_of inputs.faults slot };
+    ghost faults = { λ inputs slot. faults_of inputs slot };
 
     fn read(&mut self, slot: u32, buffer: &mut [u8]) -> Result<usize, Failed> {
         let answer = match slot {

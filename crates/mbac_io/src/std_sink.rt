@@ -2,6 +2,7 @@ ghost use Rattle.std.specs.Prelude.{◌≡◌};
 
 use crate::device::{Failed, Sink};
 use std::io::Write;
+use std::marker::Model;
 
 /// A sink over standard output or standard error, part of the edge that is trusted: it tells no bytes,
 /// and of what it does only the count of faults is proved.
@@ -9,6 +10,15 @@ use std::io::Write;
 pub struct StdSink<W> {
     writer: W,
     faults: u64,
+}
+
+// Contracts see its count of faults alone.
+impl<W> Model for StdSink<W> {
+    ghost use Rattle.std.specs.Prelude.{ℕ};
+
+    ghost Value = { ℕ };
+
+    ghost view = { λ sink. sink.faults };
 }
 
 impl<W: Write> StdSink<W> {
@@ -26,7 +36,7 @@ impl<W: Write> Sink for StdSink<W> {
 
     ghost taken = { λ sink. None };
 
-    ghost faults = { λ sink. sink.faults };
+    ghost faults = { λ sink. sink };
 
     // A write that takes nothing is a fault: no later one need take anything either.
     fn write(&mut self, bytes: &[u8]) -> Result<usize, Failed> {
