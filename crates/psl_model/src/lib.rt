@@ -3,10 +3,12 @@
 
 mod expressions;
 mod formulas;
+pub mod laws;
 mod names;
 mod operators;
 mod refusals;
 mod sequences;
+mod units;
 pub mod values;
 
 pub use expressions::{Expr, Subexpr};
@@ -15,3 +17,4 @@ pub use names::{Name, Signal};
 pub use operators::{BinOp, UnOp};
 pub use refusals::Refusal;
 pub use sequences::{Sere, Subsere};
+pub use units::{Directive, PslUnit};
