@@ -1,6 +1,7 @@
 pub mod Expr
 pub mod Sere
 pub mod Formula
+pub mod Operators
 pub mod Value
 pub mod Limits
 pub mod Valid

@@ -6,3 +6,4 @@ pub mod SereCode
 pub mod FormulaCode
 pub mod Codes
 pub mod ViewCode
+pub mod Taken

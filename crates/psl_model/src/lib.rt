@@ -14,7 +14,7 @@ pub mod values;
 pub use expressions::{Expr, Subexpr};
 pub use formulas::{Formula, Reach, Subformula};
 pub use names::{Name, Signal};
-pub use operators::{BinOp, UnOp};
+pub use operators::{BinOp, OpRow, UnOp, OPERATORS};
 pub use refusals::Refusal;
 pub use sequences::{Sere, Subsere};
 pub use units::{Directive, PslUnit};
