@@ -1,1 +1,6 @@
+pub mod Contexts
+pub mod Fits
+pub mod Shifts
+pub mod ValidTests
 pub mod Views
+pub mod Wrapping

@@ -1,8 +1,8 @@
--- How operators are spelled and bind: the operators of IEEE 1364-2005, 5.1, that are read, in this project's order of
--- binding, which is that of IEEE 1364-2005, Table 5-4, but for the prefixes, which bind tightest.
+-- How operators are spelled and bind: those of IEEE 1364-2005, 5.1, that are read, in its order of binding.
 --     spelling       the operator's marks
 --     level          the place of its group in the order of binding, from 0 for the tightest
-use Rattle.std.specs.Prelude.{ℕ, List, codes}
+use Rattle.std.specs.Prelude.{ℕ, List, [], ◌∷◌, codes}
+use Rattle.psl_model.specs.declared.operators.OpRow.{OpRow}
 use Rattle.psl_model.specs.declared.operators.UnOp.{UnOp}
 use Rattle.psl_model.specs.declared.operators.UnOp.TheVariants.{Not, Flip, AllOnes, AnyOne, Parity}
 use Rattle.psl_model.specs.declared.operators.BinOp.{BinOp}
@@ -49,3 +49,23 @@ binary_level BitXor = 6
 binary_level BitOr = 7
 binary_level And = 8
 binary_level Or = 9
+
+-- the operators in the order of their variants, which is that of the table
+abbrev pub unary_operators : List UnOp
+unary_operators = Not ∷ Flip ∷ AllOnes ∷ AnyOne ∷ Parity ∷ []
+
+abbrev pub binary_operators : List BinOp
+binary_operators = Add ∷ Sub ∷ Shl ∷ Shr ∷ Lt ∷ Le ∷ Gt ∷ Ge ∷ Eq ∷ Ne ∷ BitAnd ∷ BitXor ∷ BitOr ∷ And ∷ Or ∷ []
+
+-- a row as spelling, level and number of operands
+abbrev pub Row : Type 0
+Row = List ℕ × ℕ × ℕ
+
+abbrev pub row_of : OpRow → Row
+row_of r = (r.spelling.now, r.level, r.operands)
+
+abbrev pub unary_row : UnOp → Row
+unary_row op = (unary_symbol op, 0, 1)
+
+abbrev pub binary_row : BinOp → Row
+binary_row op = (binary_symbol op, binary_level op, 2)

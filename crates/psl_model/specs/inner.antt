@@ -7,3 +7,4 @@ pub mod FormulaCode
 pub mod Codes
 pub mod ViewCode
 pub mod Taken
+pub mod ValidTest

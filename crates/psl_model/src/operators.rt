@@ -1,9 +1,9 @@
 //! The operators of expressions, as IEEE 1364-2005 names them, and their table.
 
-ghost use Rattle.std.specs.Prelude.{◌≡◌, ℕ, Bool};
-ghost use Rattle.psl_model.specs.Operators.{unary_symbol, binary_symbol, binary_level};
-ghost use Rattle.psl_model.specs.Valid.{wants_width, choose_bare, bare_by_both, bare_by_left};
-ghost use Rattle.psl_model.specs.Value.{binary_width, left_context, right_context};
+ghost use Rattle.std.specs.Prelude.{◌≡◌, ℕ, Bool, if◌then◌else◌, ◌++◌, map};
+ghost use Rattle.psl_model.specs.Operators.{unary_symbol, binary_symbol, binary_level, row_of, unary_row, binary_row, unary_operators, binary_operators};
+ghost use Rattle.psl_model.specs.Valid.{is_flip, wants_width, choose_bare, bare_by_both, bare_by_left};
+ghost use Rattle.psl_model.specs.Value.{unary_width, unary_context, binary_width, left_context, right_context};
 ghost use Rattle.psl_model.specs.inner.Taken.{width_taken, left_taken, right_taken, bare_taken};
 
 /// An operator of one operand: `!`, `~`, `&`, `|`, `^`.
@@ -48,16 +48,16 @@ pub struct OpRow {
 }
 
 /// Hands the rows of the prefix operators, over a number `$x` of `$width` bits, to the macro
-/// `$make`: variant, spelling and value.
+/// `$make`: variant, spelling, whether it hands its context on to its operand, and value.
 #[macro_export]
 macro_rules! unary_operators {
     ($make:ident!($($args:tt)*), $width:ident, $x:ident) => {
         $make! { ($($args)*)
-            [Not "!" (u128::from($x == 0))]
-            [Flip "~" (ones($width) - $x)]
-            [AllOnes "&" (u128::from($x == ones($width)))]
-            [AnyOne "|" (u128::from($x != 0))]
-            [Parity "^" (u128::from($x.count_ones()) % 2)]
+            [Not "!" false (u128::from($x == 0))]
+            [Flip "~" true (ones($width) - $x)]
+            [AllOnes "&" false (u128::from($x == ones($width)))]
+            [AnyOne "|" false (u128::from($x != 0))]
+            [Parity "^" false (u128::from($x.count_ones()) % 2)]
         }
     };
 }
@@ -89,7 +89,7 @@ macro_rules! binary_operators {
 }
 
 macro_rules! with_unary_rows {
-    (() $([$variant:ident $spelling:literal $value:tt])*) => {
+    (() $([$variant:ident $spelling:literal $hands_on:literal $value:tt])*) => {
         binary_operators!(all_rows!($($spelling)*), context, x, y)
     };
 }
@@ -106,10 +106,25 @@ macro_rules! all_rows {
 /// In the order of the variants of `UnOp` and then of `BinOp`.
 pub static OPERATORS: [OpRow; 20] = unary_operators!(with_unary_rows!(), width, x);
 
+/// The table, whose rows a contract can name here alone.
+pub fn operators() -> &'static [OpRow; 20]
+    ensures { map row_of result.now ≡ map unary_row unary_operators ++ map binary_row binary_operators }
+{
+    &OPERATORS
+}
+
 macro_rules! unary_row_of {
-    (($op:ident) $([$variant:ident $spelling:literal $value:tt])*) => {
+    (($op:ident) $([$variant:ident $spelling:literal $hands_on:literal $value:tt])*) => {
         match $op {
             $(UnOp::$variant => &OpRow { spelling: $spelling, level: 0, operands: 1 },)*
+        }
+    };
+}
+
+macro_rules! hands_on_of {
+    (($op:ident) $([$variant:ident $spelling:literal $hands_on:literal $value:tt])*) => {
+        match $op {
+            $(UnOp::$variant => $hands_on,)*
         }
     };
 }
@@ -122,6 +137,15 @@ impl UnOp {
         ensures operands { result.now.operands ≡ 1 }
     {
         unary_operators!(unary_row_of!(self), width, x)
+    }
+
+    /// Whether its operand is taken as it stands, at its context, and not by itself.
+    pub(crate) fn hands_on(self) -> bool
+        ensures flip { result ≡ is_flip self }
+        ensures width { (w : ℕ) → unary_width self w ≡ (if result then w else 1) }
+        ensures context { (context w : ℕ) → unary_context self context w ≡ (if result then context else w) }
+    {
+        unary_operators!(hands_on_of!(self), width, x)
     }
 }
 
