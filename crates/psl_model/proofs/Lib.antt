@@ -1,5 +1,6 @@
 pub mod Contexts
 pub mod Fits
+pub mod Moved
 pub mod Shifts
 pub mod ValidTests
 pub mod Views

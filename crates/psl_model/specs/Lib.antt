@@ -5,6 +5,7 @@ pub mod Operators
 pub mod Value
 pub mod Limits
 pub mod Valid
+pub mod Moved
 pub mod Reserved
 pub mod Names
 pub mod ExprView
