@@ -1,6 +1,6 @@
 -- How wide expressions are.
-use Rattle.std.proofs.Common.{◌≡◌, ℕ, zero, suc, ◌+◌, ◌-◌, ◌^◌, ◌<◌, ◌≤◌, List, [], ◌∷◌, length, refl, ap, sym, arith, All}
-use Rattle.std.specs.Prelude.{max, slice_index}
+use Rattle.std.proofs.Common.{ℕ, ◌≤◌, List, arith}
+use Rattle.std.proofs.Common.{All}
 use Rattle.psl_model.specs.Expr.{Expr, whole, bit, part, plain, sized, unary, binary, choice}
 use Rattle.psl_model.specs.Limits.{vector_limit}
 use Rattle.psl_model.specs.Valid.{IsValid}
@@ -8,7 +8,8 @@ use Rattle.psl_model.specs.Value.{width_of, unary_width, binary_width}
 use Rattle.psl_model.specs.declared.operators.UnOp.{UnOp}
 use Rattle.psl_model.specs.declared.operators.UnOp.TheVariants.{Not, Flip, AllOnes, AnyOne, Parity}
 use Rattle.psl_model.specs.declared.operators.BinOp.{BinOp}
-use Rattle.psl_model.specs.declared.operators.BinOp.TheVariants.{Add, Sub, Shl, Shr, Lt, Le, Gt, Ge, Eq, Ne, BitAnd, BitXor, BitOr, And, Or}
+use Rattle.psl_model.specs.declared.operators.BinOp.TheVariants.{Add, Sub, Shl, Shr, Lt, Le, Gt, Ge, Eq, Ne, BitAnd}
+use Rattle.psl_model.specs.declared.operators.BinOp.TheVariants.{BitXor, BitOr, And, Or}
 
 unary_narrow : (op : UnOp) (w : ℕ) → w ≤ vector_limit → unary_width op w ≤ vector_limit
 unary_narrow Not w h = omega arith
@@ -34,7 +35,8 @@ binary_narrow BitOr v w h k = omega arith
 binary_narrow And v w h k = omega arith
 binary_narrow Or v w h k = omega arith
 
-pub narrow : (widths : List ℕ) (e : Expr) → All (λ w. w ≤ vector_limit) widths → IsValid widths e → width_of widths e ≤ vector_limit
+pub narrow : (widths : List ℕ) (e : Expr) → All (λ w. w ≤ vector_limit) widths → IsValid widths e →
+    width_of widths e ≤ vector_limit
 narrow widths (whole s) all valid = all s 0 valid
 narrow widths (bit s n) all valid = omega arith
 narrow widths (part s h l) all valid = let w = all s 0 valid.0 in omega (arith, w, valid.2, valid.3)

@@ -1,15 +1,18 @@
 -- The value of an expression fits its context.
-use Rattle.std.proofs.Common.{◌≡◌, ℕ, zero, suc, ◌+◌, ◌-◌, ◌/◌, ◌%◌, ◌^◌, ◌<◌, ◌≤◌, Bool, true, false, List, [], ◌∷◌, length, refl, ap, sym, arith, lt_of_lt_of_le, lt_of_le_of_lt, subst}
-use Rattle.std.specs.Prelude.{max, slice_index, ◌==◌, not, count_ones, if◌then◌else◌}
+use Rattle.std.proofs.Common.{◌≡◌, ℕ, zero, suc, ◌+◌, ◌-◌, ◌/◌, ◌%◌, ◌^◌, ◌<◌, ◌≤◌, Bool, true, false, List, [], ◌∷◌}
+use Rattle.std.proofs.Common.{length, refl, ap, sym, arith, lt_of_lt_of_le, lt_of_le_of_lt, subst}
+use Rattle.std.specs.Prelude.{slice_index, ◌==◌, not, count_ones, if◌then◌else◌}
 use Rattle.std.proofs.Math.Pow.{pow_mono}
 use Rattle.std.proofs.lemmas.Nat.{pow_pos, mod_below, shr_le, and_le_l, or_lt, xor_lt}
 use Rattle.psl_model.specs.Expr.{Expr, whole, bit, part, plain, sized, unary, binary, choice}
 use Rattle.psl_model.specs.Valid.{IsValid}
-use Rattle.psl_model.specs.Value.{FitWidths, width_of, value_of, bit_of, unary_width, binary_width, unary_context, left_context, right_context, unary_value, binary_value}
+use Rattle.psl_model.specs.Value.{FitWidths, width_of, value_of, bit_of, unary_width, binary_width, unary_context}
+use Rattle.psl_model.specs.Value.{left_context, right_context, unary_value, binary_value}
 use Rattle.psl_model.specs.declared.operators.UnOp.{UnOp}
 use Rattle.psl_model.specs.declared.operators.UnOp.TheVariants.{Not, Flip, AllOnes, AnyOne, Parity}
 use Rattle.psl_model.specs.declared.operators.BinOp.{BinOp}
-use Rattle.psl_model.specs.declared.operators.BinOp.TheVariants.{Add, Sub, Shl, Shr, Lt, Le, Gt, Ge, Eq, Ne, BitAnd, BitXor, BitOr, And, Or}
+use Rattle.psl_model.specs.declared.operators.BinOp.TheVariants.{Add, Sub, Shl, Shr, Lt, Le, Gt, Ge, Eq, Ne, BitAnd}
+use Rattle.psl_model.specs.declared.operators.BinOp.TheVariants.{BitXor, BitOr, And, Or}
 
 pub fit_length : (widths values : List ℕ) → FitWidths widths values → length values ≡ length widths
 fit_length [] [] h = refl
@@ -17,7 +20,8 @@ fit_length (w ∷ ws) (v ∷ vs) h = ap suc (fit_length ws vs h.1)
 fit_length [] (v ∷ vs) h = absurd h
 fit_length (w ∷ ws) [] h = absurd h
 
-pub fit_at : (widths values : List ℕ) (place : ℕ) → FitWidths widths values → slice_index values place < 2 ^ slice_index widths place
+pub fit_at : (widths values : List ℕ) (place : ℕ) → FitWidths widths values →
+    slice_index values place < 2 ^ slice_index widths place
 fit_at [] [] place h = omega arith
 fit_at (w ∷ ws) (v ∷ vs) zero h = h.0
 fit_at (w ∷ ws) (v ∷ vs) (suc place) h = fit_at ws vs place h.1
@@ -35,7 +39,8 @@ one_bit : (b : Bool) (context : ℕ) → 1 ≤ context → bit_of b < 2 ^ contex
 one_bit true context some = let larger : 2 ^ 1 ≤ 2 ^ context = pow_mono some in omega arith
 one_bit false context some = pow_pos context
 
-unary_fits : (op : UnOp) (context w x : ℕ) → unary_width op w ≤ context → unary_value op (unary_context op context w) x < 2 ^ context
+unary_fits : (op : UnOp) (context w x : ℕ) → unary_width op w ≤ context →
+    unary_value op (unary_context op context w) x < 2 ^ context
 unary_fits Not context w x own = one_bit (x == 0) context own
 unary_fits Flip context w x own = let some = pow_pos context in omega arith
 unary_fits AllOnes context w x own = one_bit (x == 2 ^ w - 1) context own
@@ -43,7 +48,8 @@ unary_fits AnyOne context w x own = one_bit (not (x == 0)) context own
 unary_fits Parity context w x own = low_bits (count_ones x) 1 context own
 
 binary_fits : (op : BinOp) (context v w x y : ℕ) → binary_width op v w ≤ context →
-    x < 2 ^ left_context op context v w → y < 2 ^ right_context op context v w → binary_value op context x y < 2 ^ context
+    x < 2 ^ left_context op context v w → y < 2 ^ right_context op context v w →
+    binary_value op context x y < 2 ^ context
 binary_fits Add context v w x y own p q = low_bits (x + y) context context (omega arith)
 binary_fits Sub context v w x y own p q = low_bits (x + 2 ^ context - y) context context (omega arith)
 binary_fits Shl context v w x y own p q = mod_below _ (2 ^ context) (pow_pos context)

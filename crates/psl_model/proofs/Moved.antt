@@ -33,26 +33,26 @@ value_same by us ws xs ys c (plain n) same values valid = refl
 value_same by us ws xs ys c (sized w v) same values valid = refl
 value_same by us ws xs ys c (unary op a) same values valid =
     let worth : ℕ → ℕ = λ w.
-        unary_value op (unary_context op c w) (value_of ws ys (unary_context op c w) (moved by a)) in
+    unary_value op (unary_context op c w) (value_of ws ys (unary_context op c w) (moved by a)) in
     let at = unary_context op c (width_of us a) in
     (λ i. worth (width_same by us ws a same valid i))
     ∙ (λ i. unary_value op at (value_same by us ws xs ys at a same values valid i))
 value_same by us ws xs ys c (binary op a b) same values valid =
     let worth : ℕ → ℕ → ℕ = λ v w. binary_value op c
-        (value_of ws ys (left_context op c v w) (moved by a)) (value_of ws ys (right_context op c v w) (moved by b)) in
+    (value_of ws ys (left_context op c v w) (moved by a)) (value_of ws ys (right_context op c v w) (moved by b)) in
     let at = left_context op c (width_of us a) (width_of us b) in
     let beside = right_context op c (width_of us a) (width_of us b) in
     (λ i. worth (width_same by us ws a same valid.1 i) (width_same by us ws b same valid.2 i))
     ∙ (λ i. binary_value op c
-        (value_same by us ws xs ys at a same values valid.1 i)
-        (value_same by us ws xs ys beside b same values valid.2 i))
+    (value_same by us ws xs ys at a same values valid.1 i)
+    (value_same by us ws xs ys beside b same values valid.2 i))
 value_same by us ws xs ys c (choice t a b) same values valid =
     let test : ℕ → ℕ = λ w. value_of ws ys w (moved by t) in
     let own = width_of us t in
     (λ i. cond (test (width_same by us ws t same valid.0 i) == 0)
-        (value_of ws ys c (moved by b)) (value_of ws ys c (moved by a)))
+    (value_of ws ys c (moved by b)) (value_of ws ys c (moved by a)))
     ∙ (λ i. cond (value_same by us ws xs ys own t same values valid.0 i == 0)
-        (value_same by us ws xs ys c b same values valid.2 i) (value_same by us ws xs ys c a same values valid.1 i))
+    (value_same by us ws xs ys c b same values valid.2 i) (value_same by us ws xs ys c a same values valid.1 i))
 
 bare_same : (by : ℕ) (e : Expr) → is_bare (moved by e) ≡ is_bare e
 bare_same by (whole s) = refl
@@ -75,12 +75,16 @@ valid_same by us ws (part s h l) same room valid =
 valid_same by us ws (plain n) same room valid = valid
 valid_same by us ws (sized w v) same room valid = valid
 valid_same by us ws (unary op a) same room valid = valid_same by us ws a same room valid
-valid_same by us ws (binary op a b) same room valid =
-    ((λ i. wants_width op && (bare_same by a i && bare_same by b i)) ∙ valid.0,
-    valid_same by us ws a same room valid.1, valid_same by us ws b same room valid.2)
-valid_same by us ws (choice t a b) same room valid =
-    (valid_same by us ws t same room valid.0,
-    valid_same by us ws a same room valid.1, valid_same by us ws b same room valid.2)
+valid_same by us ws (binary op a b) same room valid = (
+  (λ i. wants_width op && (bare_same by a i && bare_same by b i)) ∙ valid.0,
+  valid_same by us ws a same room valid.1,
+  valid_same by us ws b same room valid.2,
+)
+valid_same by us ws (choice t a b) same room valid = (
+  valid_same by us ws t same room valid.0,
+  valid_same by us ws a same room valid.1,
+  valid_same by us ws b same room valid.2,
+)
 
 pub parentheses_same : (by : ℕ) (e : Expr) → parentheses (moved by e) ≡ parentheses e
 parentheses_same by (whole s) = refl

@@ -1,23 +1,26 @@
 -- The tests of `valid` decide its rules.
-use Rattle.std.proofs.Common.{◌≡◌, ℕ, ◌^◌, ◌<◌, ◌≤◌, Bool, true, false, List, length, Decides, refl, sym, ◌∙◌, inl, inr, arith}
+use Rattle.std.proofs.Common.{◌≡◌, ℕ, ◌^◌, ◌<◌, ◌≤◌, Bool, true, false, List, length, Decides, refl, sym, ◌∙◌, inl}
+use Rattle.std.proofs.Common.{inr, arith}
 use Rattle.std.specs.Prelude.{◌↔◌, IsTrue, not, ◌&&◌, nat_lt, nat_le, slice_index}
 use Rattle.std.proofs.lemmas.Bool.{false≢true}
 use Rattle.std.proofs.lemmas.Bool.Decides.{Decides-and, Decides-like, Decides-ltb, leb_tells}
 use Rattle.psl_model.specs.Expr.{Expr, whole, bit, part, plain, sized, unary, binary, choice}
 use Rattle.psl_model.specs.Limits.{vector_limit}
 use Rattle.psl_model.specs.Valid.{IsValid, is_bare, wants_width}
-use Rattle.psl_model.specs.inner.ValidTest.{valid_test, place_test, literal_test}
+use Rattle.psl_model.specs.inner.ValidTest.{valid_test, place_test}
 
 Decides-leb : (a b : ℕ) → Decides (nat_le a b) (a ≤ b)
 Decides-leb a b = elim (leb_tells a b) [
-    inl h ↦ (λ _. h.1, λ _. h.0)
-  | inr h ↦ (λ p. absurd (false≢true (sym h.0 ∙ p)), λ q. absurd (let below = h.1 in omega arith)) ]
+  | inl h ↦ (λ _. h.1, λ _. h.0)
+  | inr h ↦ (λ p. absurd (false≢true (sym h.0 ∙ p)), λ q. absurd (let below = h.1 in omega arith))
+]
 
 Decides-false : (b : Bool) → Decides (not b) (b ≡ false)
 Decides-false true = (λ p. absurd (false≢true p), λ p. absurd (false≢true (sym p)))
 Decides-false false = (λ p. refl, λ p. refl)
 
-Decides-three : {P Q R : Type 0} (x y z : Bool) → Decides x P → Decides y Q → Decides z R → Decides (x && (y && z)) (P × Q × R)
+Decides-three : {P Q R : Type 0} (x y z : Bool) → Decides x P → Decides y Q → Decides z R →
+    Decides (x && (y && z)) (P × Q × R)
 Decides-three x y z p q r =
     Decides-like (x && (y && z)) (λ h. (h.0, h.1.0, h.1.1)) (λ h. (h.0, (h.1, h.2)))
     (Decides-and x (y && z) p (Decides-and y z q r))

@@ -1,5 +1,5 @@
 -- Sums and differences that wrapped at 128 bits, cut down to fewer.
-use Rattle.std.proofs.Common.{◌≡◌, ℕ, ◌+◌, ◌-◌, ◌*◌, ◌%◌, ◌^◌, ◌<◌, ◌≤◌, ap, ◌∙◌, sym, arith, refl}
+use Rattle.std.proofs.Common.{◌≡◌, ℕ, ◌+◌, ◌-◌, ◌*◌, ◌%◌, ◌^◌, ◌<◌, ◌≤◌, ap, ◌∙◌, arith}
 use Rattle.std.proofs.Math.Nat.{add-mul-mod_self_left}
 use Rattle.std.proofs.lemmas.Nat.{pow-add, pow_pos}
 use lib.Pow.{mod-mod-pow}
@@ -22,7 +22,7 @@ difference x y w within fits =
     let some = pow_pos d in
     let rounds : 2 ^ d ≡ (2 ^ d - 1) + 1 = omega arith in
     let whole : 2 ^ 128 ≡ 2 ^ w * ((2 ^ d - 1) + 1) =
-        ap (λ (k : ℕ). 2 ^ k) sum ∙ pow-add 2 w d ∙ ap (λ (k : ℕ). 2 ^ w * k) rounds in
+    ap (λ (k : ℕ). 2 ^ k) sum ∙ pow-add 2 w d ∙ ap (λ (k : ℕ). 2 ^ w * k) rounds in
     cut_twice (x + (2 ^ 128 - y)) w within
     ∙ ap (λ (n : ℕ). n % 2 ^ w) (more x y (2 ^ w) (2 ^ d - 1) (2 ^ 128) whole fits)
     ∙ add-mul-mod_self_left (x + 2 ^ w - y) (2 ^ w) (2 ^ d - 1)

@@ -3,7 +3,9 @@ use Rattle.psl_model.specs.Formula as tree
 use Rattle.psl_model.specs.ExprView.{expr_of}
 use Rattle.psl_model.specs.SereView.{sere_of}
 use Rattle.psl_model.specs.declared.formulas.Formula.{Formula}
-use Rattle.psl_model.specs.declared.formulas.Formula.TheVariants.{Bool, Not, And, Or, Implies, Iff, Seq, Suffix, Always, Never, Eventually, Next, Event, Until, Before, Abort}
+use Rattle.psl_model.specs.declared.formulas.Formula.TheVariants.{Bool, Not, And, Or, Implies, Iff, Seq, Suffix}
+use Rattle.psl_model.specs.declared.formulas.Formula.TheVariants.{Always, Never, Eventually, Next, Event, Until}
+use Rattle.psl_model.specs.declared.formulas.Formula.TheVariants.{Before, Abort}
 
 abbrev pub formula_of : Formula → tree.Formula
 formula_of (Bool e) = tree.bool (expr_of e)

@@ -1,5 +1,6 @@
 -- What a name may be: this project's own spelling, a part of IEEE 1850-2010, 4.1.
-use Rattle.std.specs.Prelude.{◌≢◌, ℕ, ◌≤◌, Bool, true, nat_eq, nat_le, ◌==◌, ◌&&◌, ◌||◌, List, [], ◌∷◌, length, codes, IsTrue, Contains}
+use Rattle.std.specs.Prelude.{◌≢◌, ℕ, ◌≤◌, Bool, true, nat_eq, nat_le, ◌==◌, ◌&&◌, ◌||◌, List, [], ◌∷◌, length, codes}
+use Rattle.std.specs.Prelude.{IsTrue, Contains}
 use Rattle.std.specs.List.{list_all, starts_with}
 use Rattle.psl_model.specs.Limits.{name_limit}
 use Rattle.psl_model.specs.Reserved.{language_words, left_out_words, verilog_words}

@@ -2,7 +2,8 @@
 use Rattle.psl_model.specs.Sere as tree
 use Rattle.psl_model.specs.ExprView.{expr_of}
 use Rattle.psl_model.specs.declared.sequences.Sere.{Sere}
-use Rattle.psl_model.specs.declared.sequences.Sere.TheVariants.{Bool, Then, Fuse, Or, Both, Meet, Within, Repeat, Goto, Equal}
+use Rattle.psl_model.specs.declared.sequences.Sere.TheVariants.{Bool, Then, Fuse, Or, Both, Meet, Within, Repeat}
+use Rattle.psl_model.specs.declared.sequences.Sere.TheVariants.{Goto, Equal}
 
 abbrev pub sere_of : Sere → tree.Sere
 sere_of (Bool e) = tree.bool (expr_of e)

@@ -1,9 +1,11 @@
--- Which expressions are valid for signals of the given widths: this project's own rules, over the forms of IEEE 1364-2005, 5.
+-- Which expressions are valid for signals of the given widths: this project's own rules, over the forms of
+-- IEEE 1364-2005, 5.
 use Rattle.std.specs.Prelude.{ℕ, ◌≡◌, ◌<◌, ◌≤◌, ◌+◌, ◌^◌, max, Bool, true, false, ◌&&◌, List, length, slice_index}
 use Rattle.psl_model.specs.declared.operators.UnOp.{UnOp}
 use Rattle.psl_model.specs.declared.operators.UnOp.TheVariants.{Flip}
 use Rattle.psl_model.specs.declared.operators.BinOp.{BinOp}
-use Rattle.psl_model.specs.declared.operators.BinOp.TheVariants.{Add, Sub, Shl, Shr, Lt, Le, Gt, Ge, BitAnd, BitXor, BitOr}
+use Rattle.psl_model.specs.declared.operators.BinOp.TheVariants.{Add, Sub, Shl, Shr, Lt, Le, Gt, Ge, BitAnd, BitXor}
+use Rattle.psl_model.specs.declared.operators.BinOp.TheVariants.{BitOr}
 use Rattle.psl_model.specs.Expr.{Expr, whole, bit, part, plain, sized, unary, binary, choice}
 use Rattle.psl_model.specs.Limits.{vector_limit}
 
@@ -51,12 +53,15 @@ wants_width _ = false
 abbrev pub IsValid : (widths : List ℕ) → Expr → Type 0
 IsValid widths (whole signal) = signal < length widths
 -- a place that the vector has, and not of a signal of one bit
-IsValid widths (bit signal place) = (signal < length widths) × (1 < slice_index widths signal) × (place < slice_index widths signal)
-IsValid widths (part signal high low) = (signal < length widths) × (1 < slice_index widths signal) × (high < slice_index widths signal) × (low ≤ high)
+IsValid widths (bit signal place) =
+    (signal < length widths) × (1 < slice_index widths signal) × (place < slice_index widths signal)
+IsValid widths (part signal high low) =
+    (signal < length widths) × (1 < slice_index widths signal) × (high < slice_index widths signal) × (low ≤ high)
 IsValid widths (plain number) = number < 2 ^ 32
 IsValid widths (sized width value) = (1 ≤ width) × (width ≤ vector_limit) × (value < 2 ^ width)
 IsValid widths (unary op a) = IsValid widths a
-IsValid widths (binary op a b) = (wants_width op && (is_bare a && is_bare b) ≡ false) × IsValid widths a × IsValid widths b
+IsValid widths (binary op a b) =
+    (wants_width op && (is_bare a && is_bare b) ≡ false) × IsValid widths a × IsValid widths b
 IsValid widths (choice test first second) = IsValid widths test × IsValid widths first × IsValid widths second
 
 -- how many parentheses are open at some place of the expression's text, at most

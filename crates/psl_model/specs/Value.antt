@@ -4,11 +4,13 @@
 --     value_of widths values context e   its value where it is taken at `context` bits, at least its own
 --     own_value widths values e          its value at its own width
 -- `widths` and `values` have an entry for each signal, by its place. Widths have no bound here.
-use Rattle.std.specs.Prelude.{ℕ, ◌+◌, ◌-◌, ◌*◌, ◌/◌, ◌%◌, ◌^◌, max, Bool, List, [], ◌∷◌, slice_index, ◌<◌, count_ones, if◌then◌else◌, ◌==◌, nat_lt, nat_le, not, ◌&&◌, ◌||◌, bit_and, bit_or, bit_xor}
+use Rattle.std.specs.Prelude.{ℕ, ◌+◌, ◌-◌, ◌*◌, ◌/◌, ◌%◌, ◌^◌, max, Bool, List, [], ◌∷◌, slice_index, ◌<◌, count_ones}
+use Rattle.std.specs.Prelude.{if◌then◌else◌, ◌==◌, nat_lt, nat_le, not, ◌&&◌, ◌||◌, bit_and, bit_or, bit_xor}
 use Rattle.psl_model.specs.declared.operators.UnOp.{UnOp}
 use Rattle.psl_model.specs.declared.operators.UnOp.TheVariants.{Not, Flip, AllOnes, AnyOne, Parity}
 use Rattle.psl_model.specs.declared.operators.BinOp.{BinOp}
-use Rattle.psl_model.specs.declared.operators.BinOp.TheVariants.{Add, Sub, Shl, Shr, Lt, Le, Gt, Ge, Eq, Ne, BitAnd, BitXor, BitOr, And, Or}
+use Rattle.psl_model.specs.declared.operators.BinOp.TheVariants.{Add, Sub, Shl, Shr, Lt, Le, Gt, Ge, Eq, Ne, BitAnd}
+use Rattle.psl_model.specs.declared.operators.BinOp.TheVariants.{BitXor, BitOr, And, Or}
 use Rattle.psl_model.specs.Expr.{Expr, whole, bit, part, plain, sized, unary, binary, choice}
 
 -- a truth value as a number of one bit
@@ -136,7 +138,9 @@ value_of widths values context (unary op a) =
 value_of widths values context (binary op a b) =
     let v = width_of widths a in
     let w = width_of widths b in
-    binary_value op context (value_of widths values (left_context op context v w) a) (value_of widths values (right_context op context v w) b)
+    let x = value_of widths values (left_context op context v w) a in
+    let y = value_of widths values (right_context op context v w) b in
+    binary_value op context x y
 value_of widths values context (choice test first second) =
     if value_of widths values (width_of widths test) test == 0
     then value_of widths values context second

@@ -3,7 +3,8 @@
 ghost use Rattle.std.specs.Prelude.{◌≡◌, ◌≢◌, ◌↔◌, ◌<◌, ◌≤◌, ◌^◌, IsTrue, All, false, not, ◌&&◌, length, slice_index};
 ghost use Rattle.psl_model.specs.Limits.{vector_limit, value_limit};
 ghost use Rattle.psl_model.specs.Valid.{IsValid, is_bare, wants_width, choose_bare, bare_by_both, bare_by_left};
-ghost use Rattle.psl_model.specs.Value.{width_of, value_of, own_value, binary_width, left_context, right_context, unary_width, unary_context, FitWidths};
+ghost use Rattle.psl_model.specs.Value.{width_of, value_of, own_value, binary_width, left_context, right_context};
+ghost use Rattle.psl_model.specs.Value.{unary_width, unary_context, FitWidths};
 ghost use Rattle.psl_model.specs.View.{expr_of};
 ghost use Rattle.psl_model.specs.inner.ValidTest.{valid_test, place_test, literal_test};
 
@@ -241,10 +242,13 @@ fn contexts(op: BinOp, context: u32, left: &Expr, right: &Expr, widths: &[u32]) 
     requires left { IsValid widths.now (expr_of left.now) }
     requires right { IsValid widths.now (expr_of right.now) }
     requires vectors { All (λ w. w ≤ vector_limit) widths.now }
-    requires own { binary_width op (width_of widths.now (expr_of left.now)) (width_of widths.now (expr_of right.now)) ≤ context }
+    requires own { binary_width op
+        (width_of widths.now (expr_of left.now)) (width_of widths.now (expr_of right.now)) ≤ context }
     requires limit { context ≤ value_limit }
-    ensures left { result.0 ≡ left_context op context (width_of widths.now (expr_of left.now)) (width_of widths.now (expr_of right.now)) }
-    ensures right { result.1 ≡ right_context op context (width_of widths.now (expr_of left.now)) (width_of widths.now (expr_of right.now)) }
+    ensures left { result.0 ≡
+        left_context op context (width_of widths.now (expr_of left.now)) (width_of widths.now (expr_of right.now)) }
+    ensures right { result.1 ≡
+        right_context op context (width_of widths.now (expr_of left.now)) (width_of widths.now (expr_of right.now)) }
     ensures left_own { width_of widths.now (expr_of left.now) ≤ result.0 }
     ensures right_own { width_of widths.now (expr_of right.now) ≤ result.1 }
     ensures limits { (result.0 ≤ value_limit) × (result.1 ≤ value_limit) }

@@ -7,16 +7,18 @@ mod expressions;
 mod formulas;
 pub mod laws;
 mod names;
-pub mod operators;
+mod operators;
 mod refusals;
 mod sequences;
+#[cfg(test)]
+mod tests;
 mod units;
 pub mod values;
 
 pub use expressions::{Expr, Subexpr};
 pub use formulas::{Formula, Reach, Subformula};
 pub use names::{Name, Signal};
-pub use operators::{BinOp, OPERATORS, OpRow, UnOp};
+pub use operators::{BinOp, OPERATORS, OpRow, UnOp, operator_table};
 pub use refusals::Refusal;
 pub use sequences::{Sere, Subsere};
 pub use units::{Directive, PslUnit};

@@ -1,7 +1,8 @@
 //! The operators of expressions, as IEEE 1364-2005 names them, and their table.
 
 ghost use Rattle.std.specs.Prelude.{◌≡◌, ℕ, Bool, if◌then◌else◌, ◌++◌, map};
-ghost use Rattle.psl_model.specs.Operators.{unary_symbol, binary_symbol, binary_level, row_of, unary_row, binary_row, unary_operators, binary_operators};
+ghost use Rattle.psl_model.specs.Operators.{unary_symbol, binary_symbol, binary_level, row_of, unary_row, binary_row};
+ghost use Rattle.psl_model.specs.Operators.{unary_operators, binary_operators};
 ghost use Rattle.psl_model.specs.Valid.{is_flip, wants_width, choose_bare, bare_by_both, bare_by_left};
 ghost use Rattle.psl_model.specs.Value.{unary_width, unary_context, binary_width, left_context, right_context};
 ghost use Rattle.psl_model.specs.inner.Taken.{width_taken, left_taken, right_taken, bare_taken};
@@ -95,7 +96,10 @@ macro_rules! with_unary_rows {
 }
 
 macro_rules! all_rows {
-    (($($prefix:literal)*) $([$variant:ident $spelling:literal $level:literal $taken:ident $wants:literal $value:tt])*) => {
+    (
+        ($($prefix:literal)*)
+        $([$variant:ident $spelling:literal $level:literal $taken:ident $wants:literal $value:tt])*
+    ) => {
         [
             $(OpRow { spelling: $prefix, level: 0, operands: 1 },)*
             $(OpRow { spelling: $spelling, level: $level, operands: 2 },)*
@@ -107,7 +111,7 @@ macro_rules! all_rows {
 pub static OPERATORS: [OpRow; 20] = unary_operators!(with_unary_rows!(), width, x);
 
 /// The table, whose rows a contract can name here alone.
-pub fn operators() -> &'static [OpRow; 20]
+pub fn operator_table() -> &'static [OpRow; 20]
     ensures { map row_of result.now ≡ map unary_row unary_operators ++ map binary_row binary_operators }
 {
     &OPERATORS

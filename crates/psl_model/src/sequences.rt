@@ -226,4 +226,16 @@ mod tests {
         assert!(rt; matches!(a.get(), Sere::Bool(Expr::Whole(7))));
         Ok(())
     }
+
+    // {a[->1]; b}
+    #[test]
+    fn a_copied_sequence_is_equal(rt: HostRuntime) -> Result<(), Fail> {
+        let goto = Subsere::new(rt.alloc(), Sere::Goto(Expr::Whole(7), 1, Some(1)))?;
+        let next = Subsere::new(rt.alloc(), Sere::Bool(Expr::Whole(8)))?;
+        let sere = Sere::Then(goto, next);
+        let copy = sere.copy(rt.alloc())?;
+        assert!(rt; copy == sere);
+        assert!(rt; copy != Sere::Goto(Expr::Whole(7), 1, None));
+        Ok(())
+    }
 }

@@ -8,7 +8,8 @@ ghost use Rattle.psl_model.specs.Expr.{Expr, whole, plain, sized, unary, binary,
 ghost use Rattle.psl_model.specs.Value.{value_of, own_value};
 
 /// With `cnt` of 4 bits at 15: `cnt + 1 == 0` is false, since a plain number has 32 bits and the sum is taken there;
-/// `cnt + 4'd1 == 4'd0` is true; `cnt + 4'd1 == 5'd16` is true, since a comparison takes both sides at the larger width.
+/// `cnt + 4'd1 == 4'd0` is true; `cnt + 4'd1 == 5'd16` is true, since a comparison takes both sides at the larger
+/// width.
 pub fn a_sum_is_taken_at_the_width_of_its_comparison()
     ensures plain { own_value (4 ∷ []) (15 ∷ []) (binary Eq (binary Add (whole 0) (plain 1)) (plain 0)) ≡ 0 }
     ensures same_width { own_value (4 ∷ []) (15 ∷ []) (binary Eq (binary Add (whole 0) (sized 4 1)) (sized 4 0)) ≡ 1 }
@@ -49,7 +50,9 @@ pub fn a_reduction_stands_by_itself()
 {}
 
 /// The branches of `?:` have the larger width of the two, and its condition stands by itself: with `a` of 4 bits at 15,
-/// `(a + 4'd1) ? 5'd1 : a + 4'd1` takes its condition at 4 bits, where it is 0, and its second branch at 5, where it is 16.
+/// `(a + 4'd1) ? 5'd1 : a + 4'd1` takes its condition at 4 bits, where it is 0, and its second branch at 5, where it
+/// is 16.
 pub fn a_choice_widens_its_branches_alone()
-    ensures { own_value (4 ∷ []) (15 ∷ []) (choice (binary Add (whole 0) (sized 4 1)) (sized 5 1) (binary Add (whole 0) (sized 4 1))) ≡ 16 }
+    ensures { own_value (4 ∷ []) (15 ∷ [])
+        (choice (binary Add (whole 0) (sized 4 1)) (sized 5 1) (binary Add (whole 0) (sized 4 1))) ≡ 16 }
 {}

@@ -8,6 +8,7 @@ use Rattle.std.specs.Prelude.{◌≡◌, ℕ, ◌<◌, ◌≤◌, ◌^◌, ◌%�
 use Rattle.psl_model.specs.declared.names.Signal.{Signal}
 use Rattle.psl_model.specs.Expr.{Expr, whole, sized, choice}
 use Rattle.psl_model.specs.Value.{width_of, value_of}
+pub use Rattle.psl_model.specs.Value.{FitWidths}
 use Rattle.verilog_text.specs.Module.{Module, Register, Wire, widths_of}
 
 -- the values of one cycle: of the inputs `mbac_rst`, `mbac_eot` and the ports, of the registers and wires, and of the output
@@ -44,13 +45,6 @@ abbrev pub IsRun : Module → List Cycle → Type 0
 IsRun m [] = Unit {0}
 IsRun m (c ∷ []) = IsSettled m c
 IsRun m (c ∷ d ∷ cycles) = IsSettled m c × Follows m c d × IsRun m (d ∷ cycles)
-
--- as many values as widths, each below its power of two
-abbrev pub FitWidths : (widths values : List ℕ) → Type 0
-FitWidths [] [] = Unit {0}
-FitWidths (width ∷ widths) (value ∷ values) = (value < 2 ^ width) × FitWidths widths values
-FitWidths [] (value ∷ values) = ⊥
-FitWidths (width ∷ widths) [] = ⊥
 
 -- a cycle without reset has these values of the ports and of `mbac_eot`
 pub record HasInputs (inputs : List ℕ) (eot : ℕ) (c : Cycle) : Type 0 where

@@ -3,10 +3,8 @@
 --     StandsForModules text ms    the bytes are a checker text, and these are its modules
 use Rattle.std.specs.Prelude.{◌≡◌, ◌≢◌, ℕ, zero, suc, ◌-◌, List, [], ◌∷◌, ◌++◌, map, codes, decimal, Option, Some, None, if◌then◌else◌, ◌==◌, All, AllPairs, flat_map}
 use Rattle.psl_model.specs.declared.names.Signal.{Signal}
-use Rattle.psl_model.specs.declared.operators.UnOp.{UnOp}
-use Rattle.psl_model.specs.declared.operators.UnOp.TheVariants.{Not, Flip, AllOnes, AnyOne, Parity}
 use Rattle.psl_model.specs.declared.operators.BinOp.{BinOp}
-use Rattle.psl_model.specs.declared.operators.BinOp.TheVariants.{Add, Sub, Shl, Shr, Lt, Le, Gt, Ge, Eq, Ne, BitAnd, BitXor, BitOr, And, Or}
+pub use Rattle.psl_model.specs.Operators.{unary_symbol, binary_symbol}
 use Rattle.psl_model.specs.Expr.{Expr, whole, bit, part, plain, sized, unary, binary, choice}
 use Rattle.verilog_text.specs.Module.{Module, Register, Wire, register_stem, wire_stem, names_of, IsLawful}
 
@@ -18,30 +16,6 @@ line text = text ++ 10 ∷ []
 abbrev pub each_numbered : {X : Type 0} → (ℕ → X → List ℕ) → (from : ℕ) → List X → List ℕ
 each_numbered f from [] = []
 each_numbered f from (x ∷ xs) = f from x ++ each_numbered f (suc from) xs
-
-abbrev pub unary_symbol : UnOp → List ℕ
-unary_symbol Not = codes "!"
-unary_symbol Flip = codes "~"
-unary_symbol AllOnes = codes "&"
-unary_symbol AnyOne = codes "|"
-unary_symbol Parity = codes "^"
-
-abbrev pub binary_symbol : BinOp → List ℕ
-binary_symbol Add = codes "+"
-binary_symbol Sub = codes "-"
-binary_symbol Shl = codes "<<"
-binary_symbol Shr = codes ">>"
-binary_symbol Lt = codes "<"
-binary_symbol Le = codes "<="
-binary_symbol Gt = codes ">"
-binary_symbol Ge = codes ">="
-binary_symbol Eq = codes "=="
-binary_symbol Ne = codes "!="
-binary_symbol BitAnd = codes "&"
-binary_symbol BitXor = codes "^"
-binary_symbol BitOr = codes "|"
-binary_symbol And = codes "&&"
-binary_symbol Or = codes "||"
 
 -- the name at a place of a table
 abbrev pub name_at : List (List ℕ) → ℕ → List ℕ

@@ -103,33 +103,11 @@ fn put_infix(op: BinOp, out: &mut Vec<u8>) -> Result<(), AllocError>
 fn prefix(op: UnOp) -> &'static [u8]
     ensures { result.now ≡ unary_symbol op }
 {
-    match op {
-        UnOp::Not => b"!",
-        UnOp::Flip => b"~",
-        UnOp::AllOnes => b"&",
-        UnOp::AnyOne => b"|",
-        UnOp::Parity => b"^",
-    }
+    op.row().spelling.as_bytes()
 }
 
 fn infix(op: BinOp) -> &'static [u8]
     ensures { result.now ≡ binary_symbol op }
 {
-    match op {
-        BinOp::Add => b"+",
-        BinOp::Sub => b"-",
-        BinOp::Shl => b"<<",
-        BinOp::Shr => b">>",
-        BinOp::Lt => b"<",
-        BinOp::Le => b"<=",
-        BinOp::Gt => b">",
-        BinOp::Ge => b">=",
-        BinOp::Eq => b"==",
-        BinOp::Ne => b"!=",
-        BinOp::BitAnd => b"&",
-        BinOp::BitXor => b"^",
-        BinOp::BitOr => b"|",
-        BinOp::And => b"&&",
-        BinOp::Or => b"||",
-    }
+    op.row().spelling.as_bytes()
 }

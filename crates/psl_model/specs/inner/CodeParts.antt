@@ -1,5 +1,5 @@
--- The parts of a code. Which codes are taken changes no statement's meaning: the logic asks only that no two values have
--- one code. The code of a node is its tag, followed by the codes of its fields, the last of which ends it.
+-- The parts of a code. Which codes are taken changes no statement's meaning: the logic asks only that no two values
+-- have one code. The code of a node is its tag, followed by the codes of its fields, the last of which ends it.
 use Rattle.std.specs.Prelude.{◌≡◌, ℕ, zero, suc, Bool, true, false, ◌==◌, refl}
 use mathlib.Core.Path.{ap, sym, ◌∙◌}
 use mathlib.Core.Bool.{true≢false}

@@ -2,7 +2,8 @@
 use Rattle.std.specs.Prelude.{◌≡◌, refl}
 use Rattle.std.specs.Coded.{Coded}
 use base.Stored.{Gv, gnum, gcons}
-use Rattle.psl_model.specs.inner.CodeParts.{at, from, number, tags_differ, variant_code, variant_inj, truth_code, truth_inj}
+use Rattle.psl_model.specs.inner.CodeParts.{at, from, number, tags_differ, variant_code, variant_inj, truth_code}
+use Rattle.psl_model.specs.inner.CodeParts.{truth_inj}
 use Rattle.psl_model.specs.inner.ExprCode.{expr_code, expr_inj}
 use Rattle.psl_model.specs.inner.SereCode.{sere_code, sere_inj}
 use Rattle.psl_model.specs.contracts.formulas.Reach as reach
@@ -27,10 +28,15 @@ formula_code (tree.suffix r l f) = gcons (gnum 7) (gcons (sere_code r) (gcons (t
 formula_code (tree.always f) = gcons (gnum 8) (formula_code f)
 formula_code (tree.never f) = gcons (gnum 9) (formula_code f)
 formula_code (tree.eventually f) = gcons (gnum 10) (formula_code f)
-formula_code (tree.next s r l h f) = gcons (gnum 11) (gcons (truth_code s) (gcons (reach_code r) (gcons (gnum l) (gcons (gnum h) (formula_code f)))))
-formula_code (tree.event e s r l h f) = gcons (gnum 12) (gcons (expr_code e) (gcons (truth_code s) (gcons (reach_code r) (gcons (gnum l) (gcons (gnum h) (formula_code f))))))
-formula_code (tree.until s o f g) = gcons (gnum 13) (gcons (truth_code s) (gcons (truth_code o) (gcons (formula_code f) (formula_code g))))
-formula_code (tree.before s o f g) = gcons (gnum 14) (gcons (truth_code s) (gcons (truth_code o) (gcons (formula_code f) (formula_code g))))
+formula_code (tree.next s r l h f) =
+    gcons (gnum 11) (gcons (truth_code s) (gcons (reach_code r) (gcons (gnum l) (gcons (gnum h) (formula_code f)))))
+formula_code (tree.event e s r l h f) =
+    gcons (gnum 12) (gcons (expr_code e) (gcons (truth_code s) (gcons (reach_code r)
+    (gcons (gnum l) (gcons (gnum h) (formula_code f))))))
+formula_code (tree.until s o f g) =
+    gcons (gnum 13) (gcons (truth_code s) (gcons (truth_code o) (gcons (formula_code f) (formula_code g))))
+formula_code (tree.before s o f g) =
+    gcons (gnum 14) (gcons (truth_code s) (gcons (truth_code o) (gcons (formula_code f) (formula_code g))))
 formula_code (tree.abort f e) = gcons (gnum 15) (gcons (formula_code f) (expr_code e))
 
 pub formula_inj : (x y : tree.Formula) → formula_code x ≡ formula_code y → x ≡ y

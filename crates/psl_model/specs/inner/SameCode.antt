@@ -1,7 +1,7 @@
 -- One equality and one hash for all trees that have codes: those of the codes.
 use Rattle.std.specs.Prelude.{◌≡◌, Bool, true, false, ◌==◌, ◌&&◌, [], ◌++◌, refl}
 use Rattle.std.specs.Bool.{Decides}
-use Rattle.std.specs.Cmp.{IsEquivalence, decided}
+use Rattle.std.specs.Cmp.{IsEquivalence, decided, first_so, second_so}
 use Rattle.std.specs.Hash as fed
 use Rattle.std.proofs.lemmas.Bool.{eqb-true, eq-eqb}
 use mathlib.Core.Path.{ap, sym, ◌∙◌}
@@ -20,18 +20,13 @@ fed_code gnil = []
 fed_code (gnum n) = fed.u128 n
 fed_code (gcons a b) = fed_code a ++ fed_code b
 
-both : (a b : Bool) → a && b ≡ true → (a ≡ true) × (b ≡ true)
-both true true p = (refl, refl)
-both true false p = absurd (true≢false (sym p))
-both false true p = absurd (true≢false (sym p))
-both false false p = absurd (true≢false (sym p))
-
 pub same_code-is : (g h : Gv) → same_code g h ≡ true → g ≡ h
 same_code-is gnil gnil p = refl
 same_code-is (gnum m) (gnum n) p = ap gnum (eqb-true m n p)
 same_code-is (gcons a b) (gcons c d) p =
-    let parts = both (same_code a c) (same_code b d) p in
-    λ i. gcons (same_code-is a c parts.0 i) (same_code-is b d parts.1 i)
+    λ i. gcons
+    (same_code-is a c (first_so (same_code a c) (same_code b d) p) i)
+    (same_code-is b d (second_so (same_code a c) (same_code b d) p) i)
 same_code-is _ _ p = absurd (true≢false (sym p))
 
 pub same_code-refl : (g : Gv) → same_code g g ≡ true

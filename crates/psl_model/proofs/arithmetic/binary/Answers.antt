@@ -10,5 +10,6 @@ returns-in-Add c =
 
 pub returns-in-Sub : goal.returns-in-Sub
 returns-in-Sub c =
-    c.cut-in-Sub.ensures ∙ difference c.args.x c.args.y c.args.context c.requires.context (c.requires.taken_away c.in-Sub.is)
+    c.cut-in-Sub.ensures
+    ∙ difference c.args.x c.args.y c.args.context c.requires.context (c.requires.taken_away c.in-Sub.is)
     ∙ ap (λ o. binary_value o c.args.context c.args.x c.args.y) (sym c.in-Sub.is)

@@ -13,7 +13,8 @@ pub binary-requires-clause-taken_away : goal.binary-requires-clause-taken_away
 binary-requires-clause-taken_away t c =
     λ is_sub.
     let y_fits = fits_as c.args.widths.now c.args.values.now c.contexts-at_left.result.1
-        (expr_of c.get-in-Binary-4.result.now) c.worth-y.result c.requires.fit (search rules) (search rules) c.worth-y.ensures in
+    (expr_of c.get-in-Binary-4.result.now) c.worth-y.result c.requires.fit
+    (search rules) (search rules) c.worth-y.ensures in
     let v = width_of c.args.widths.now (expr_of c.get-in-Binary.result.now) in
     let w = width_of c.args.widths.now (expr_of c.get-in-Binary-2.result.now) in
     let context = c.contexts-at_left.ensures.right ∙ ap (λ o. right_context o c.args.width v w) is_sub in
