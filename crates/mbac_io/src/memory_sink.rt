@@ -92,8 +92,10 @@ impl Sink for MemorySink {
         ensures never_falls { self.old.faults ≤ self.new.faults }
 
         // What this sink promises besides.
-        ensures fails_exactly { IsErr result ↔ (Contains self.old.fail_at self.old.call ⊎ (length self.old.taken ≡ self.old.room)) }
-        ensures count { IfOk result (λ count. count ≡ min (length bytes.now) (min self.old.most (self.old.room - length self.old.taken))) }
+        ensures fails_exactly { IsErr result ↔
+            (Contains self.old.fail_at self.old.call ⊎ (length self.old.taken ≡ self.old.room)) }
+        ensures count { IfOk result (λ count.
+            count ≡ min (length bytes.now) (min self.old.most (self.old.room - length self.old.taken))) }
         ensures next_call { self.new.call ≡ next_count self.old.call }
         ensures same_room { self.new.room ≡ self.old.room }
         ensures same_most { self.new.most ≡ self.old.most }
