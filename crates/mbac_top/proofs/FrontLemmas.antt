@@ -10,7 +10,7 @@ use Rattle.std.specs.List.{prefix_len, list_all}
 use Rattle.std.specs.Cmp.Lexicographic.{pointwise}
 use Rattle.psl_model.specs.Names.{between}
 use Rattle.mbac_top.specs.ThinForm.{is_blank, is_digit, AreBlanks, IsThinName}
-use Rattle.mbac_top.specs.Reading.{after_blanks, after_text, after_gap, name_and_rest}
+use Rattle.mbac_top.specs.inner.Reading.{after_blanks, after_text, after_gap, name_and_rest}
 
 pub none_some : {X : Type 0} (x : X) → None ≡ Some x → ⊥
 none_some x e = cc

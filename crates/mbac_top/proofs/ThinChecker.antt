@@ -11,7 +11,7 @@ use Rattle.checker_meaning.specs.Checks.{Checks}
 use Rattle.checker_meaning.specs.Headline.{ChecksUnit}
 use Rattle.checker_meaning.specs.NegationChecker.{negation_checker}
 use Rattle.mbac_top.specs.ThinForm.{IsThinName, thin_unit}
-use Rattle.mbac_top.specs.ThinChecker.{thin_module_name, thin_port}
+use Rattle.mbac_top.specs.inner.ThinChecker.{thin_module_name, thin_port}
 use Rattle.mbac_top.proofs.ThinNames.{usable, module_identifier, module_prefix}
 
 -- what holds of the one element of a list

@@ -10,7 +10,7 @@ use Rattle.std.proofs.lemmas.Slice.Eq.{bytes_eq-Decides}
 use Rattle.psl_model.specs.Reserved.{language_words, left_out_words, verilog_words}
 use Rattle.psl_model.specs.Names.{between, begins_name, continues_name, IsIdentifier, checker_prefix, IsUsableName}
 use Rattle.mbac_top.specs.ThinForm.{is_digit, IsThinName}
-use Rattle.mbac_top.specs.ThinChecker.{thin_module_name}
+use Rattle.mbac_top.specs.inner.ThinChecker.{thin_module_name}
 use Rattle.mbac_top.proofs.FrontLemmas.{both_true}
 
 letter_begins : (byte : ℕ) → between 97 122 byte ≡ true → begins_name byte ≡ true

@@ -5,7 +5,7 @@ use Rattle.std.proofs.lemmas.Bool.Decides.{nat_tests}
 use Rattle.std.proofs.lemmas.List.{nil_from_length}
 use Rattle.std.specs.List.{prefix_len, list_all}
 use Rattle.mbac_top.specs.ThinForm.{is_blank, is_digit, AreBlanks, IsThinName, IsThinForm, Token, word, mark, SpellsAfter}
-use Rattle.mbac_top.specs.Reading.{after_blanks, after_text, after_gap, ◌>>=◌, unit_part, assertion_part, end_part, names_in}
+use Rattle.mbac_top.specs.inner.Reading.{after_blanks, after_text, after_gap, ◌>>=◌, unit_part, assertion_part, end_part, names_in}
 use Rattle.mbac_top.proofs.FrontLemmas.{none_some, some_pair, both_true, after_blanks-gap, after_gap-gap, after_text-text, name_begins, name_and_rest-name, after_blanks-only, after_gap-only, after_text-only, name_and_rest-only}
 
 -- where a step gives something, what it gave

@@ -6,7 +6,7 @@ ghost use Rattle.verilog_text.specs.View.{module_of};
 ghost use Rattle.checker_meaning.specs.Headline.{ChecksUnit};
 ghost use Rattle.checker_meaning.specs.NegationChecker.{negation_checker};
 ghost use Rattle.mbac_top.specs.ThinForm.{IsThinName, thin_unit};
-ghost use Rattle.mbac_top.specs.ThinChecker.{thin_port, thin_module_name};
+ghost use Rattle.mbac_top.specs.inner.ThinChecker.{thin_port, thin_module_name};
 
 use checker_meaning::negation_checks_always;
 use psl_model::{Expr, Name, Signal, Subexpr, UnOp};

@@ -1,7 +1,7 @@
 //! The words of a command.
 
 ghost use Rattle.std.specs.Prelude.{◌≡◌, ◌≢◌, ◌↔◌, [], ◌∷◌, map, codes, string_bytes, IfSome, IsSome};
-ghost use Rattle.mbac_top.specs.Answers.{IsCompile};
+ghost use Rattle.mbac_top.specs.Words.{IsCompile};
 
 /// The file that the words of a `compile` command name, or none where they are no such command.
 pub fn compile_file(words: &[String]) -> Option<&str>

@@ -2,7 +2,7 @@ use Rattle.std.proofs.Common.{◌≡◌, ℕ, List, Some, None, ◌∙◌, sym}
 use Rattle.std.specs.Prelude.{Option, option_map, IfSome, IsSomeAnd}
 use Rattle.mbac_top.specs.declared.thin_form.ThinForm.{ThinForm}
 use Rattle.mbac_top.specs.ThinForm.{IsThinForm}
-use Rattle.mbac_top.specs.Reading.{names_in}
+use Rattle.mbac_top.specs.inner.Reading.{names_in}
 use Rattle.mbac_top.proofs.FrontLemmas.{none_some, some_pair}
 use Rattle.mbac_top.proofs.ThinReading.{reads, spells}
 use Rattle.mbac_top.proofs.thin_form.read.Goals as goal

@@ -1,7 +1,7 @@
 use Rattle.std.proofs.Common.{◌≡◌, ◌≢◌, [], ◌∷◌, ◌∙◌, ℕ, ◌<◌, ◌≤◌, false, length, List, get_or, map, refl, ap, arith, sym, string_bytes, subst}
 use Rattle.std.specs.Prelude.{◌==◌, codes}
 use Rattle.std.proofs.lemmas.Slice.Eq.{bytes_eq-Decides}
-use Rattle.mbac_top.specs.Answers.{IsCompile}
+use Rattle.mbac_top.specs.Words.{IsCompile}
 use Rattle.mbac_top.proofs.words.compile_file.Goals as goal
 
 -- a list of two elements
