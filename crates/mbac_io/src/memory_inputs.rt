@@ -1,4 +1,5 @@
-ghost use Rattle.std.specs.Prelude.{◌≡◌, ◌≢◌, ℕ, ◌<◌, ◌≤◌, ◌↔◌, ◌++◌, [], length, take, drop, min, IfOk, OnOk, OnErr, IsErr, Contains};
+ghost use Rattle.std.specs.Prelude.{◌≡◌, ◌≢◌, ℕ, ◌<◌, ◌≤◌, ◌↔◌, ◌++◌, [], length, take, drop, min, IfOk};
+ghost use Rattle.std.specs.Prelude.{OnOk, OnErr, IsErr, Contains};
 ghost use Rattle.mbac_io.specs.Device.{Rose};
 ghost use Rattle.mbac_io.specs.Faults.{next_count, faults_of, AreCountedApart};
 ghost use Rattle.mbac_io.specs.MemoryDevices.{contents, file_at, left_of};

@@ -1,4 +1,5 @@
-ghost use Rattle.std.specs.Prelude.{◌≡◌, ◌≢◌, ℕ, ◌-◌, ◌<◌, ◌≤◌, ◌↔◌, ◌⊎◌, ◌++◌, [], length, take, min, IfOk, OnOk, OnErr, IsErr, IsOk, Contains};
+ghost use Rattle.std.specs.Prelude.{◌≡◌, ◌≢◌, ℕ, ◌-◌, ◌<◌, ◌≤◌, ◌↔◌, ◌⊎◌, ◌++◌, [], length, take, min, IfOk};
+ghost use Rattle.std.specs.Prelude.{OnOk, OnErr, IsErr, IsOk, Contains};
 ghost use Rattle.mbac_io.specs.Device.{Rose};
 ghost use Rattle.mbac_io.specs.Faults.{next_count};
 
@@ -33,7 +34,7 @@ impl Model for MemorySink {
       faults = sink.faults;
     } };
 
-    ghost invariant = { λ sink. (0 < sink.most) × (vec_len sink.taken ≤ sink.room) × (sink.room ≤ vec_capacity sink.taken) };
+    ghost invariant = { λ s. (0 < s.most) × (vec_len s.taken ≤ s.room) × (s.room ≤ vec_capacity s.taken) };
 }
 
 impl MemorySink {

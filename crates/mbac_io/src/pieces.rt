@@ -12,5 +12,4 @@ pub fn pieces_make_a_text()
         Appends first second xs → AppendsPart second third ys → AppendsPart first third (xs ++ ys) }
     ensures nothing { (first : Option (List ℕ)) → Appends first first [] }
     ensures rose_later { (first second third : ℕ) → first ≤ second → Rose second third → Rose first third }
-{
-}
+{}

@@ -1,9 +1,11 @@
 -- What the bytes of slot 0 demand of `compile` is one answer, and so each answer that says why it comes meets it.
-use Rattle.std.proofs.Common.{◌≡◌, ℕ, zero, suc, ◌<◌, ◌≤◌, List, length, refl, ap, arith, subst, sym, ◌∙◌, Some, None, inl, inr}
+use Rattle.std.proofs.Common.{◌≡◌, ℕ, zero, suc, ◌<◌, ◌≤◌, List, length, refl, ap, arith, subst, sym, ◌∙◌}
+use Rattle.std.proofs.Common.{Some, None, inl, inr}
 use Rattle.std.specs.Prelude.{Option, IfSome, IsSome, ◌⊎◌}
 use Rattle.psl_model.specs.Limits.{unit_text_limit}
 use Rattle.mbac_top.specs.declared.outcome.Cause.{Cause}
-use Rattle.mbac_top.specs.declared.outcome.Cause.TheVariants.{Done, Usage, ReadFault, WriteFault, OutOfMemory, InputTooLong, Unbuilt}
+use Rattle.mbac_top.specs.declared.outcome.Cause.TheVariants.{Done, Usage, ReadFault, WriteFault, OutOfMemory}
+use Rattle.mbac_top.specs.declared.outcome.Cause.TheVariants.{InputTooLong, Unbuilt}
 use Rattle.mbac_top.specs.Words.{Command, Says, IsCommand, slots_of, limit_of}
 use Rattle.mbac_top.specs.Words.Command.{compile}
 use Rattle.mbac_top.specs.Call.{Change, Call, Contents, MayHave, Had}
@@ -16,7 +18,8 @@ refused_no_unit : (bytes : List ℕ) (cause : Cause) → IsRefusedUnit bytes cau
 refused_no_unit bytes Unbuilt none unit = none unit.0 unit.1
 refused_no_unit bytes _ none unit = absurd none
 
-refused_once : (bytes : List ℕ) (cause other : Cause) → IsRefusedUnit bytes cause → IsRefusedUnit bytes other → cause ≡ other
+refused_once : (bytes : List ℕ) (cause other : Cause) → IsRefusedUnit bytes cause → IsRefusedUnit bytes other →
+    cause ≡ other
 refused_once bytes Unbuilt Unbuilt _ _ = refl
 refused_once bytes Unbuilt _ refused absent = absurd absent
 refused_once bytes _ _ absent _ = absurd absent
@@ -70,17 +73,20 @@ first_decides OutOfMemory = omega arith
 first_decides Unbuilt = omega arith
 
 -- what a slot tells is what it may have had
-told : (before after : Option (List ℕ)) (bytes others : List ℕ) → IsSome after → before ≡ Some bytes → IfSome after (λ _. before ≡ Some others) → bytes ≡ others
+told : (before after : Option (List ℕ)) (bytes others : List ℕ) → IsSome after → before ≡ Some bytes →
+    IfSome after (λ _. before ≡ Some others) → bytes ≡ others
 told before None bytes others some had may = cc
 told before (Some rest) bytes others some had may = cc
 
 -- both sides at once: the answer stands on the bytes that slot 0 tells
 answer_stands : (call : Call) (bytes others : Contents) (due answer : Cause) →
     ((slot : ℕ) → slot < slots_for compile due → Had (call.slots slot) (bytes slot)) →
-    ((slot : ℕ) → slot < slots_of compile → MayHave (call.slots slot) (others slot)) → Stands (others 0) answer → Stands (bytes 0) answer
+    ((slot : ℕ) → slot < slots_of compile → MayHave (call.slots slot) (others slot)) → Stands (others 0) answer →
+    Stands (bytes 0) answer
 answer_stands call bytes others due answer had may stands =
     let first = had 0 (first_decides due) in
-    let same = told (call.slots 0).before (call.slots 0).after (bytes 0) (others 0) first.0 first.1 (may 0 (omega arith)) in
+    let same =
+    told (call.slots 0).before (call.slots 0).after (bytes 0) (others 0) first.0 first.1 (may 0 (omega arith)) in
     subst (λ (b : List ℕ). Stands b answer) (sym same) stands
 
 pub meets : (call : Call) (answer : Cause) → IsCause call answer → MeetsBytes call answer
@@ -89,11 +95,20 @@ meets call OutOfMemory is compile bytes due says had demand = inr (inl refl)
 meets call (ReadFault slot) (compile, others, _, may, (reads, fit, rose)) compile bytes due says had demand =
     inr (inr (inl (slot, omega (arith, reads, first_decides due), refl)))
 meets call (InputTooLong slot) (compile, others, _, may, is) compile bytes due says had demand =
-    inl (once (bytes 0) (InputTooLong slot) due (answer_stands call bytes others due (InputTooLong slot) had may (stands-due others (InputTooLong slot) is)) (stands-due bytes due demand))
+    inl (once (bytes 0) (InputTooLong slot) due
+    (answer_stands call bytes others due (InputTooLong slot) had may (stands-due others (InputTooLong slot) is))
+    (stands-due bytes due demand))
 meets call Done (compile, others, _, may, (fit, (text, right, wrote))) compile bytes due says had demand =
-    inl (once (bytes 0) Done due (answer_stands call bytes others due Done had may (fit 0 (omega arith), right.is_unit)) (stands-due bytes due demand))
+    inl (once (bytes 0) Done due
+    (answer_stands call bytes others due Done had may (fit 0 (omega arith), right.is_unit))
+    (stands-due bytes due demand))
 meets call WriteFault (compile, others, _, may, (fit, (text, right, part), rose)) compile bytes due says had demand =
-    let done = once (bytes 0) Done due (answer_stands call bytes others due Done had may (fit 0 (omega arith), right.is_unit)) (stands-due bytes due demand) in
+    let done =
+    once (bytes 0) Done due
+    (answer_stands call bytes others due Done had may (fit 0 (omega arith), right.is_unit))
+    (stands-due bytes due demand) in
     inr (inr (inr (sym done, refl)))
 meets call Unbuilt (compile, others, _, may, is) compile bytes due says had demand =
-    inl (once (bytes 0) Unbuilt due (answer_stands call bytes others due Unbuilt had may (stands-due others Unbuilt is)) (stands-due bytes due demand))
+    inl (once (bytes 0) Unbuilt due
+    (answer_stands call bytes others due Unbuilt had may (stands-due others Unbuilt is))
+    (stands-due bytes due demand))

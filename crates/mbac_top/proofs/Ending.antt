@@ -6,7 +6,8 @@ use Rattle.std.specs.Prelude.{Option, Result, Ok, Err, IfErr, IfOk, IfSome, IsSo
 use Rattle.psl_model.specs.Limits.{unit_text_limit}
 use Rattle.mbac_io.specs.Device.{WhereTold, Keeps, TakesAll, TakesSome}
 use Rattle.mbac_top.specs.declared.outcome.Cause.{Cause}
-use Rattle.mbac_top.specs.declared.outcome.Cause.TheVariants.{Done, Usage, ReadFault, WriteFault, OutOfMemory, InputTooLong, Unbuilt}
+use Rattle.mbac_top.specs.declared.outcome.Cause.TheVariants.{Done, Usage, ReadFault, WriteFault, OutOfMemory}
+use Rattle.mbac_top.specs.declared.outcome.Cause.TheVariants.{InputTooLong, Unbuilt}
 use Rattle.mbac_top.specs.Words.{IsCompile, IsCommand, slots_of, limit_of}
 use Rattle.mbac_top.specs.Words.Command.{compile}
 use Rattle.mbac_top.specs.Call.{Change, Call, Contents, MayHave, Had, FaultRose}
@@ -17,19 +18,23 @@ use Rattle.mbac_top.specs.inner.Ending.{IsWhyUncompiled, HasShort, IsTextOf, IsW
 -- Bytes that a slot may have had.
 
 -- some bytes came off the front
-pub may_have-some : (before after : Option (List ℕ)) → TakesSome before after → (bytes : List ℕ) × IfSome after (λ _. before ≡ Some bytes)
+pub may_have-some : (before after : Option (List ℕ)) → TakesSome before after →
+    (bytes : List ℕ) × IfSome after (λ _. before ≡ Some bytes)
 may_have-some before None takes = ([], tt)
 may_have-some before (Some rest) (bytes, takes) = (bytes ++ rest, takes)
 
 -- these were all
-pub may_have-all : (before after : Option (List ℕ)) (bytes : List ℕ) → TakesAll before after bytes → IfSome after (λ _. before ≡ Some bytes)
+pub may_have-all : (before after : Option (List ℕ)) (bytes : List ℕ) → TakesAll before after bytes →
+    IfSome after (λ _. before ≡ Some bytes)
 may_have-all before None bytes takes = tt
 may_have-all before (Some rest) bytes takes = takes.1
 
 -- where the slot tells nothing, it may have had too many
-pub may_have-long : (limit : ℕ) (before after : Option (List ℕ)) → WhereTold before after (λ bytes. limit < length bytes) →
+pub may_have-long : (limit : ℕ) (before after : Option (List ℕ)) →
+    WhereTold before after (λ bytes. limit < length bytes) →
     (bytes : List ℕ) × IfSome after (λ _. before ≡ Some bytes) × (limit < length bytes)
-may_have-long limit before None long = (replicate (suc limit) 0, tt, omega (arith, length-replicate {A = ℕ} (suc limit) 0))
+may_have-long limit before None long =
+    (replicate (suc limit) 0, tt, omega (arith, length-replicate {A = ℕ} (suc limit) 0))
 may_have-long limit None (Some rest) long = absurd long
 may_have-long limit (Some bytes) (Some rest) long = (bytes, refl, long)
 
@@ -43,7 +48,8 @@ takes_some-keeps before None keeps = ([], tt)
 takes_some-keeps before (Some bytes) keeps = ([], keeps)
 
 -- where slot 0 alone was read, each slot lost bytes from its front alone
-pub front_taken : (changes : ℕ → Change) → ReadsOnly changes 0 → (slot : ℕ) → TakesSome (changes slot).before (changes slot).after
+pub front_taken : (changes : ℕ → Change) → ReadsOnly changes 0 → (slot : ℕ) →
+    TakesSome (changes slot).before (changes slot).after
 front_taken changes reads zero = reads.front_taken
 front_taken changes reads (suc slot) =
     let left = reads.others_left (suc slot) (omega arith) in
@@ -55,7 +61,8 @@ keeps-same (Some bytes) = refl
 
 -- `compile_slot`: why there is no text, where the bytes were read whole
 
-pub why_unread : (input : Change) (bytes : List ℕ) → MayHave input bytes → length bytes ≤ unit_text_limit → (cause : Cause) → IsWhyUncompiled bytes cause → IsWhyUnread input cause
+pub why_unread : (input : Change) (bytes : List ℕ) → MayHave input bytes → length bytes ≤ unit_text_limit →
+    (cause : Cause) → IsWhyUncompiled bytes cause → IsWhyUnread input cause
 why_unread input bytes may short OutOfMemory why = tt
 why_unread input bytes may short Done why = absurd why
 why_unread input bytes may short Usage why = absurd why
@@ -64,7 +71,8 @@ why_unread input bytes may short (ReadFault slot) why = absurd why
 why_unread input bytes may short (InputTooLong slot) why = absurd why
 why_unread input bytes may short Unbuilt why = (bytes, may, short, why)
 
-pub why_unread-error : {T : Type 0} (r : Result T Cause) (input : Change) (bytes : List ℕ) → MayHave input bytes → length bytes ≤ unit_text_limit →
+pub why_unread-error : {T : Type 0} (r : Result T Cause) (input : Change) (bytes : List ℕ) → MayHave input bytes →
+    length bytes ≤ unit_text_limit →
     IfErr r (IsWhyUncompiled bytes) → IfErr r (IsWhyUnread input)
 why_unread-error (Ok text) input bytes may short why = tt
 why_unread-error (Err cause) input bytes may short why = why_unread input bytes may short cause why
@@ -81,7 +89,8 @@ none_before bytes earlier below = absurd (omega arith)
 pub usage : (call : Call) → ¬ IsCompile call.words → IsCause call Usage
 usage call none (compile, says) = none says
 
-pub refused : (call : Call) → IsCompile call.words → (cause : Cause) → IsWhyUnread (call.slots 0) cause → IsCause call cause
+pub refused : (call : Call) → IsCompile call.words → (cause : Cause) → IsWhyUnread (call.slots 0) cause →
+    IsCause call cause
 refused call says (ReadFault slot) (at, (bytes, may), rose) =
     let first : IsCause call (ReadFault 0) = (
       compile,

@@ -1,7 +1,8 @@
 -- The table of causes: when each answer of `run` comes, and what goes before it in the order of refusals.
 use Rattle.std.specs.Prelude.{◌≡◌, ℕ, suc, ◌<◌, ◌≤◌, ◌⊎◌, List, length}
 use Rattle.mbac_top.specs.declared.outcome.Cause.{Cause}
-use Rattle.mbac_top.specs.declared.outcome.Cause.TheVariants.{Done, Usage, ReadFault, WriteFault, OutOfMemory, InputTooLong}
+use Rattle.mbac_top.specs.declared.outcome.Cause.TheVariants.{Done, Usage, ReadFault, WriteFault, OutOfMemory}
+use Rattle.mbac_top.specs.declared.outcome.Cause.TheVariants.{InputTooLong}
 use Rattle.mbac_top.specs.Words.{Command, Says, IsCommand, slots_of, Reads, limit_of}
 use Rattle.mbac_top.specs.Words.Command.{compile}
 use Rattle.mbac_top.specs.Call.{Change, Call, FaultRose, Writes, WritesPart, Contents, MayHave, Had}

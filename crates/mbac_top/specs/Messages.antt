@@ -2,7 +2,8 @@
 use Rattle.std.specs.Prelude.{ℕ, List, [], ◌∷◌, ◌++◌, codes, decimal}
 use Rattle.std.specs.List.{flat_map}
 use Rattle.mbac_top.specs.declared.outcome.Cause.{Cause}
-use Rattle.mbac_top.specs.declared.outcome.Cause.TheVariants.{Done, Usage, ReadFault, WriteFault, OutOfMemory, InputTooLong, Unbuilt}
+use Rattle.mbac_top.specs.declared.outcome.Cause.TheVariants.{Done, Usage, ReadFault, WriteFault, OutOfMemory}
+use Rattle.mbac_top.specs.declared.outcome.Cause.TheVariants.{InputTooLong, Unbuilt}
 
 -- each other cause is a refused input
 abbrev pub status_of : Cause → ℕ

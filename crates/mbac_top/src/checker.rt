@@ -32,7 +32,8 @@ pub(crate) fn checker_text(alloc: Global, name: &[u8], signal: &[u8]) -> Result<
 
 /// The module whose output is the negation of its one port.
 fn negation_module(alloc: Global, name: &[u8], signal: &[u8]) -> Result<Module, AllocError>
-    ensures { IfOk result (λ checker. module_of checker ≡ negation_checker (thin_module_name name.now) (thin_port signal.now)) }
+    ensures { IfOk result
+        (λ checker. module_of checker ≡ negation_checker (thin_module_name name.now) (thin_port signal.now)) }
 {
     let name = module_name(alloc, name)?;
     let ports = one_port(alloc, signal)?;

@@ -15,7 +15,7 @@ use mbac_io::{Failed, Sink, pieces_make_a_text, write_all};
 pub(crate) fn tell<N: Sink>(notes: &mut N, cause: &Cause)
     ensures told { Appends (N.taken notes.old) (N.taken notes.new) (message_of cause.now)
         ⊎ (AppendsPart (N.taken notes.old) (N.taken notes.new) (message_of cause.now)
-            × Rose (N.faults notes.old) (N.faults notes.new)) }
+        × Rose (N.faults notes.old) (N.faults notes.new)) }
     ensures never_falls { N.faults notes.old ≤ N.faults notes.new }
 {
     let _ = write_message(notes, cause);
@@ -31,7 +31,8 @@ fn write_message<N: Sink>(notes: &mut N, cause: &Cause) -> Result<(), Failed>
 }
 
 fn write_front<N: Sink>(notes: &mut N, cause: &Cause) -> Result<(), Failed>
-    ensures { EndsWriting (sink_change N.taken N.faults notes.old notes.new) (codes "mbac: " ++ words_of cause.now) result }
+    ensures { EndsWriting (sink_change N.taken N.faults notes.old notes.new) (codes "mbac: " ++ words_of cause.now)
+        result }
 {
     pieces_make_a_text();
     write_all(notes, b"mbac: ")?;
@@ -46,7 +47,11 @@ fn write_words<N: Sink>(notes: &mut N, cause: &Cause) -> Result<(), Failed>
     match cause {
         Cause::Done => write_numbered(notes, "done", &[]),
         Cause::Usage => write_numbered(notes, "usage", &[]),
-        Cause::ReadFault { slot } => write_numbered(notes, "read fault in file", &[u64::from(*slot)]),
+        Cause::ReadFault { slot } => write_numbered(
+            notes,
+            "read fault in file",
+            &[u64::from(*slot)],
+        ),
         Cause::WriteFault => write_numbered(notes, "write fault", &[]),
         Cause::OutOfMemory => write_numbered(notes, "out of memory", &[]),
         Cause::InputTooLong { slot } => write_numbered(notes, "InputTooLong", &[u64::from(*slot)]),

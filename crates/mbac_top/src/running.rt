@@ -36,14 +36,14 @@ pub fn run<I: Inputs, O: Sink, N: Sink>(
     ensures usage { (result.cause ≡ Cause.Usage) ↔ (¬ IsCommand (map string_bytes words.now)) }
     ensures command { result.cause ≢ Cause.Usage → IsCommand (map string_bytes words.now) }
     ensures only { IsCause (record {
-        words = map string_bytes words.now;
-        slots = slot_changes I.left I.faults inputs.old inputs.new;
-        out = sink_change O.taken O.faults out.old out.new;
+      words = map string_bytes words.now;
+      slots = slot_changes I.left I.faults inputs.old inputs.new;
+      out = sink_change O.taken O.faults out.old out.new;
     }) result.cause }
     ensures due { MeetsBytes (record {
-        words = map string_bytes words.now;
-        slots = slot_changes I.left I.faults inputs.old inputs.new;
-        out = sink_change O.taken O.faults out.old out.new;
+      words = map string_bytes words.now;
+      slots = slot_changes I.left I.faults inputs.old inputs.new;
+      out = sink_change O.taken O.faults out.old out.new;
     }) result.cause }
 
     // What it leaves alone. Slots lose bytes from their front, and only those that the command reads.
@@ -58,7 +58,7 @@ pub fn run<I: Inputs, O: Sink, N: Sink>(
     ensures told { result.cause ≢ Cause.Done →
         Appends (N.taken notes.old) (N.taken notes.new) (message_of result.cause)
         ⊎ (AppendsPart (N.taken notes.old) (N.taken notes.new) (message_of result.cause)
-            × Rose (N.faults notes.old) (N.faults notes.new)) }
+        × Rose (N.faults notes.old) (N.faults notes.new)) }
 
     ensures inputs_never_fall { (slot : ℕ) → I.faults inputs.old slot ≤ I.faults inputs.new slot }
     ensures out_never_falls { O.faults out.old ≤ O.faults out.new }
@@ -74,7 +74,7 @@ pub fn run_without_words<N: Sink>(notes: &mut N) -> Outcome
     ensures status { result.status ≡ status_of Cause.OutOfMemory }
     ensures told { Appends (N.taken notes.old) (N.taken notes.new) (message_of Cause.OutOfMemory)
         ⊎ (AppendsPart (N.taken notes.old) (N.taken notes.new) (message_of Cause.OutOfMemory)
-            × Rose (N.faults notes.old) (N.faults notes.new)) }
+        × Rose (N.faults notes.old) (N.faults notes.new)) }
     ensures never_falls { N.faults notes.old ≤ N.faults notes.new }
 {
     end(Cause::OutOfMemory, notes)
@@ -88,7 +88,7 @@ fn end<N: Sink>(cause: Cause, notes: &mut N) -> Outcome
     ensures told { cause ≢ Cause.Done →
         Appends (N.taken notes.old) (N.taken notes.new) (message_of cause)
         ⊎ (AppendsPart (N.taken notes.old) (N.taken notes.new) (message_of cause)
-            × Rose (N.faults notes.old) (N.faults notes.new)) }
+        × Rose (N.faults notes.old) (N.faults notes.new)) }
     ensures never_falls { N.faults notes.old ≤ N.faults notes.new }
 {
     if cause != Cause::Done {
@@ -103,9 +103,9 @@ fn end<N: Sink>(cause: Cause, notes: &mut N) -> Outcome
 /// The answer of the words, with its text written.
 fn answer<I: Inputs, O: Sink>(alloc: Global, words: &[String], inputs: &mut I, out: &mut O) -> Cause
     ensures cause { IsCause (record {
-        words = map string_bytes words.now;
-        slots = slot_changes I.left I.faults inputs.old inputs.new;
-        out = sink_change O.taken O.faults out.old out.new;
+      words = map string_bytes words.now;
+      slots = slot_changes I.left I.faults inputs.old inputs.new;
+      out = sink_change O.taken O.faults out.old out.new;
     }) result }
     ensures usage_reads_nothing { result ≡ Cause.Usage → inputs.new ≡ inputs.old }
     ensures read { ReadsOnly (slot_changes I.left I.faults inputs.old inputs.new) 0 }

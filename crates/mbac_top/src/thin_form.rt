@@ -1,10 +1,12 @@
 //! Reading the units that are compiled today: `vunit NAME { assert always NAME; }`.
 
-ghost use Rattle.std.specs.Prelude.{◌≡◌, ◌≤◌, ◌↔◌, ℕ, List, length, IsTrue, IfSome, IfNone, IsSomeAnd, option_copied, option_map, is_some};
+ghost use Rattle.std.specs.Prelude.{◌≡◌, ◌≤◌, ◌↔◌, ℕ, List, length, IsTrue, IfSome, IfNone, IsSomeAnd};
+ghost use Rattle.std.specs.Prelude.{option_copied, option_map, is_some};
 ghost use Rattle.std.specs.List.{prefix_len};
 ghost use Rattle.psl_model.specs.Names.{between};
 ghost use Rattle.mbac_top.specs.ThinForm.{is_blank, is_digit, IsThinForm};
-ghost use Rattle.mbac_top.specs.inner.Reading.{after_blanks, after_text, after_gap, name_and_rest, unit_part, assertion_part, end_part, names_in};
+ghost use Rattle.mbac_top.specs.inner.Reading.{after_blanks, after_text, after_gap, name_and_rest, unit_part};
+ghost use Rattle.mbac_top.specs.inner.Reading.{assertion_part, end_part, names_in};
 
 /// The names of a unit in the thin form.
 #[derive(Clone, Copy, Debug)]

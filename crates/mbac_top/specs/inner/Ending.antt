@@ -3,7 +3,8 @@ use Rattle.std.specs.Prelude.{◌≡◌, ◌≢◌, ℕ, ◌<◌, ◌≤◌, Lis
 use Rattle.psl_model.specs.Limits.{unit_text_limit}
 use Rattle.mbac_io.specs.Device.{TakesSome}
 use Rattle.mbac_top.specs.declared.outcome.Cause.{Cause}
-use Rattle.mbac_top.specs.declared.outcome.Cause.TheVariants.{Done, Usage, ReadFault, WriteFault, OutOfMemory, InputTooLong}
+use Rattle.mbac_top.specs.declared.outcome.Cause.TheVariants.{Done, Usage, ReadFault, WriteFault, OutOfMemory}
+use Rattle.mbac_top.specs.declared.outcome.Cause.TheVariants.{InputTooLong}
 use Rattle.mbac_top.specs.Call.{Change, FaultRose, Writes, WritesPart, MayHave, IsLeftAlone}
 use Rattle.mbac_top.specs.Compile.{IsCompiledTo, IsRefusedUnit}
 

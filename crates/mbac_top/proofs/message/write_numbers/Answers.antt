@@ -13,8 +13,13 @@ returns-in_err-write_number g c =
     let before = c.loop-number.invariant in
     let next = c.in_err-write_number.ensures in
     let is : IsErr c.from_residual.result = search rules in
-    let Part : List ℕ → Type 0 = λ text. AppendsPart (g.N.Sink.taken c.args.notes.now) (g.N.Sink.taken c.write_number.new.notes) text in
-    let some = subst Part (sym (numbers_of-more numbers place c.loop-number-test.true)) (law.part_of_next _ _ _ _ _ before.written next.0) in
-    let part = subst Part (numbers_of-split numbers (place + 1)) (law.part_of_first _ _ _ (numbers_of (drop (place + 1) numbers)) some) in
+    let Part : List ℕ →
+    Type 0 = λ text. AppendsPart (g.N.Sink.taken c.args.notes.now) (g.N.Sink.taken c.write_number.new.notes) text in
+    let some =
+    subst Part (sym (numbers_of-more numbers place c.loop-number-test.true))
+    (law.part_of_next _ _ _ _ _ before.written next.0) in
+    let part =
+    subst Part (numbers_of-split numbers (place + 1))
+    (law.part_of_first _ _ _ (numbers_of (drop (place + 1) numbers)) some) in
     let rose = law.rose_later _ _ _ before.never_falls next.1 in
     failed _ _ _ is part rose (omega (arith, before.never_falls, next.2))

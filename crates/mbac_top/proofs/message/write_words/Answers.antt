@@ -11,4 +11,5 @@ pub returns-in-ReadFault : goal.returns-in-ReadFault
 returns-in-ReadFault g c = rw (c.in-ReadFault.is, ← c.from.ensures) c.write_numbered-in-ReadFault.ensures
 
 pub returns-in-InputTooLong : goal.returns-in-InputTooLong
-returns-in-InputTooLong g c = rw (c.in-InputTooLong.is, ← c.from-in-InputTooLong.ensures) c.write_numbered-in-InputTooLong.ensures
+returns-in-InputTooLong g c =
+    rw (c.in-InputTooLong.is, ← c.from-in-InputTooLong.ensures) c.write_numbered-in-InputTooLong.ensures

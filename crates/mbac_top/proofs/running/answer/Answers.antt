@@ -15,4 +15,5 @@ returns-in-Ok-clause-cause g c =
     let some : IsSome c.compile_file.result = search rules in
     let input = slot_changes g.I.Inputs.left g.I.Inputs.faults c.args.inputs.now c.compile_slot.new.inputs 0 in
     let text = subst (λ (t : List ℕ). IsTextOf input t) (sym c.deref.ensures.value) c.in-Ok.ensures.text in
-    written _ (c.compile_file.ensures.exactly.0 some) c.deref.result.now text c.write_text.result c.write_text.ensures.written
+    written _ (c.compile_file.ensures.exactly.0 some) c.deref.result.now text c.write_text.result
+    c.write_text.ensures.written
