@@ -89,26 +89,25 @@ answer_stands call bytes others due answer had may stands =
     told (call.slots 0).before (call.slots 0).after (bytes 0) (others 0) first.0 first.1 (may 0 (omega arith)) in
     subst (λ (b : List ℕ). Stands b answer) (sym same) stands
 
+-- the answer that stands is the one that is due
+same_answer : (call : Call) (bytes others : Contents) (due answer : Cause) →
+    ((slot : ℕ) → slot < slots_for compile due → Had (call.slots slot) (bytes slot)) →
+    ((slot : ℕ) → slot < slots_of compile → MayHave (call.slots slot) (others slot)) →
+    IsDue compile bytes due → IsDue compile others answer → answer ≡ due
+same_answer call bytes others due answer had may demand is =
+    let stands = answer_stands call bytes others due answer had may (stands-due others answer is) in
+    once (bytes 0) answer due stands (stands-due bytes due demand)
+
 pub meets : (call : Call) (answer : Cause) → IsCause call answer → MeetsBytes call answer
 meets call Usage is compile bytes due says had demand = absurd (is (compile, says))
 meets call OutOfMemory is compile bytes due says had demand = inr (inl refl)
 meets call (ReadFault slot) (compile, others, _, may, (reads, fit, rose)) compile bytes due says had demand =
     inr (inr (inl (slot, omega (arith, reads, first_decides due), refl)))
+meets call Done (compile, others, _, may, (is, wrote)) compile bytes due says had demand =
+    inl (same_answer call bytes others due Done had may demand is)
+meets call WriteFault (compile, others, _, may, (is, wrote, rose)) compile bytes due says had demand =
+    inr (inr (inr (sym (same_answer call bytes others due Done had may demand is), refl)))
 meets call (InputTooLong slot) (compile, others, _, may, is) compile bytes due says had demand =
-    inl (once (bytes 0) (InputTooLong slot) due
-    (answer_stands call bytes others due (InputTooLong slot) had may (stands-due others (InputTooLong slot) is))
-    (stands-due bytes due demand))
-meets call Done (compile, others, _, may, (fit, (text, right, wrote))) compile bytes due says had demand =
-    inl (once (bytes 0) Done due
-    (answer_stands call bytes others due Done had may (fit 0 (omega arith), right.is_unit))
-    (stands-due bytes due demand))
-meets call WriteFault (compile, others, _, may, (fit, (text, right, part), rose)) compile bytes due says had demand =
-    let done =
-    once (bytes 0) Done due
-    (answer_stands call bytes others due Done had may (fit 0 (omega arith), right.is_unit))
-    (stands-due bytes due demand) in
-    inr (inr (inr (sym done, refl)))
+    inl (same_answer call bytes others due (InputTooLong slot) had may demand is)
 meets call Unbuilt (compile, others, _, may, is) compile bytes due says had demand =
-    inl (once (bytes 0) Unbuilt due
-    (answer_stands call bytes others due Unbuilt had may (stands-due others Unbuilt is))
-    (stands-due bytes due demand))
+    inl (same_answer call bytes others due Unbuilt had may demand is)

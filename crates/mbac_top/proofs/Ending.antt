@@ -119,6 +119,9 @@ refused call says Unbuilt (bytes, may, short, why) = (
   (at_zero (λ slot. length bytes ≤ limit_of compile slot) short, why),
 )
 
+fits : (bytes : List ℕ) → length bytes ≤ unit_text_limit → IsUnit bytes → IsDue compile (λ _. bytes) Done
+fits bytes short unit = (at_zero (λ slot. length bytes ≤ limit_of compile slot) short, unit)
+
 pub written : (call : Call) → IsCompile call.words → (text : List ℕ) → IsTextOf (call.slots 0) text →
     (cause : Cause) → WritesText call.out text cause → IsCause call cause
 written call says text (bytes, may, short, right) Done wrote = (
@@ -126,14 +129,14 @@ written call says text (bytes, may, short, right) Done wrote = (
   (λ _. bytes),
   says,
   at_zero (λ slot. MayHave (call.slots slot) bytes) may,
-  (at_zero (λ slot. length bytes ≤ limit_of compile slot) short, (text, right, wrote)),
+  (fits bytes short right.is_unit, (text, right, wrote)),
 )
 written call says text (bytes, may, short, right) WriteFault (part, rose) = (
   compile,
   (λ _. bytes),
   says,
   at_zero (λ slot. MayHave (call.slots slot) bytes) may,
-  (at_zero (λ slot. length bytes ≤ limit_of compile slot) short, (text, right, part), rose),
+  (fits bytes short right.is_unit, (text, right, part), rose),
 )
 written call says text is Usage wrote = absurd wrote
 written call says text is (ReadFault slot) wrote = absurd wrote

@@ -32,8 +32,21 @@ FitBefore command bytes slot = (earlier : ℕ) → earlier < slot → length (by
 abbrev pub AllFit : Command → Contents → Type 0
 AllFit command bytes = FitBefore command bytes (slots_of command)
 
--- What an answer says. It speaks of the command that the words say, and of bytes that the command's slots
--- have: of a slot that tells its bytes, of those.
+-- What the bytes demand: the answer that is due where memory and devices don't fail, one row a cause. The
+-- devices' own causes and want of memory are never due.
+
+abbrev pub IsDue : Command → Contents → Cause → Type 0
+IsDue command bytes Usage = ⊥
+IsDue command bytes (ReadFault slot) = ⊥
+IsDue command bytes (InputTooLong slot) =
+    Reads command slot × FitBefore command bytes slot × IsTooLong command bytes slot
+IsDue command bytes WriteFault = ⊥
+IsDue command bytes OutOfMemory = ⊥
+IsDue command bytes Done = AllFit command bytes × IsAccepted command bytes
+IsDue command bytes refusal = AllFit command bytes × IsRefused command bytes refusal
+
+-- What an answer says, one row a cause. It speaks of the command that the words say, and of bytes that the
+-- command's slots have: of a slot that tells its bytes, of those.
 
 abbrev pub ForBytes : Call → (Command → Contents → Type 0) → Type 0
 ForBytes call P = (command : Command) × (bytes : Contents) × Says call.words command
@@ -44,40 +57,29 @@ abbrev pub IsCause : Call → Cause → Type 0
 IsCause call Usage = ¬ IsCommand call.words
 IsCause call (ReadFault slot) = ForBytes call (λ command bytes.
     Reads command slot × FitBefore command bytes slot × FaultRose (call.slots slot))
-IsCause call (InputTooLong slot) = ForBytes call (λ command bytes.
-    Reads command slot × FitBefore command bytes slot × IsTooLong command bytes slot)
+IsCause call WriteFault = ForBytes call (λ command bytes.
+    IsDue command bytes Done
+    × ((text : List ℕ) × IsTextFor command bytes text × WritesPart call.out text)
+    × FaultRose call.out)
 IsCause call OutOfMemory = IsCommand call.words
-IsCause call WriteFault = ForBytes call (λ command bytes. AllFit command bytes
-    × ((text : List ℕ) × IsTextFor command bytes text × WritesPart call.out text) × FaultRose call.out)
-IsCause call Done = ForBytes call (λ command bytes. AllFit command bytes
+IsCause call Done = ForBytes call (λ command bytes.
+    IsDue command bytes Done
     × ((text : List ℕ) × IsTextFor command bytes text × Writes call.out text))
-IsCause call refusal = ForBytes call (λ command bytes. AllFit command bytes × IsRefused command bytes refusal)
+IsCause call refusal = ForBytes call (λ command bytes. IsDue command bytes refusal)
 
--- What the bytes demand: the answer that is due where memory and devices don't fail.
+-- Where the slots tell their bytes, the due answer comes, or one that memory or a device puts in its place.
 
-abbrev pub IsDue : Command → Contents → Cause → Type 0
-IsDue command bytes Usage = ⊥
-IsDue command bytes (ReadFault slot) = ⊥
-IsDue command bytes (InputTooLong slot) =
-    Reads command slot × FitBefore command bytes slot × IsTooLong command bytes slot
-IsDue command bytes OutOfMemory = ⊥
-IsDue command bytes WriteFault = ⊥
-IsDue command bytes Done = AllFit command bytes × IsAccepted command bytes
-IsDue command bytes refusal = AllFit command bytes × IsRefused command bytes refusal
-
--- how many slots decide that it is due, from slot 0 on
+-- how many slots decide that an answer is due, from slot 0 on
 abbrev pub slots_for : Command → Cause → ℕ
 slots_for command (InputTooLong slot) = suc slot
 slots_for command _ = slots_of command
 
--- a due answer comes, or one that memory or a device puts in its place
 abbrev pub ComesFor : Command → (due answer : Cause) → Type 0
 ComesFor command due answer = (answer ≡ due)
     ⊎ (answer ≡ OutOfMemory)
     ⊎ ((slot : ℕ) × (slot < slots_for command due) × (answer ≡ ReadFault slot))
     ⊎ ((due ≡ Done) × (answer ≡ WriteFault))
 
--- the answer is one that the bytes demand, where the slots that decide tell them
 abbrev pub MeetsBytes : Call → (answer : Cause) → Type 0
 MeetsBytes call answer = (command : Command) (bytes : Contents) (due : Cause) →
     Says call.words command →
