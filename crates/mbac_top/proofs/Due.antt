@@ -1,16 +1,16 @@
 -- What the bytes of slot 0 demand of `compile` is one answer, and so each answer that says why it comes meets it.
 use Rattle.std.proofs.Common.{◌≡◌, ℕ, zero, suc, ◌<◌, ◌≤◌, List, length, refl, ap, arith, subst, sym, ◌∙◌}
 use Rattle.std.proofs.Common.{Some, None, inl, inr}
-use Rattle.std.specs.Prelude.{Option, IfSome, IsSome, ◌⊎◌}
+use Rattle.std.specs.Prelude.{Option, IfSome, IsSome}
 use Rattle.psl_model.specs.Limits.{unit_text_limit}
 use Rattle.mbac_top.specs.declared.outcome.Cause.{Cause}
 use Rattle.mbac_top.specs.declared.outcome.Cause.TheVariants.{Done, Usage, ReadFault, WriteFault, OutOfMemory}
 use Rattle.mbac_top.specs.declared.outcome.Cause.TheVariants.{InputTooLong, Unbuilt}
-use Rattle.mbac_top.specs.Words.{Command, Says, IsCommand, slots_of, limit_of}
+use Rattle.mbac_top.specs.Words.{slots_of}
 use Rattle.mbac_top.specs.Words.Command.{compile}
-use Rattle.mbac_top.specs.Call.{Change, Call, Contents, MayHave, Had}
-use Rattle.mbac_top.specs.Compile.{IsUnit, IsCompiledTo, IsRefusedUnit}
-use Rattle.mbac_top.specs.Causes.{ForBytes, IsCause, IsDue, slots_for, ComesFor, MeetsBytes}
+use Rattle.mbac_top.specs.Call.{Call, Contents, MayHave, Had}
+use Rattle.mbac_top.specs.Compile.{IsUnit, IsRefusedUnit}
+use Rattle.mbac_top.specs.Causes.{IsCause, IsDue, slots_for, MeetsBytes}
 
 -- a refusal of a unit is one, and refuses no unit
 

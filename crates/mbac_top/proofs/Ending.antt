@@ -1,19 +1,19 @@
 -- From how the parts of `run` end to the table of causes.
-use Rattle.std.proofs.Common.{◌≡◌, ◌≢◌, ℕ, zero, suc, ◌<◌, ◌≤◌, List, [], ◌++◌, length, replicate}
-use Rattle.std.proofs.Common.{refl, ap, arith, subst, sym, Some, None, inl, inr}
+use Rattle.std.proofs.Common.{◌≡◌, ℕ, zero, suc, ◌<◌, ◌≤◌, List, [], ◌++◌, length, replicate}
+use Rattle.std.proofs.Common.{refl, arith, subst, sym, Some, None}
 use Rattle.std.proofs.Math.ListN.{length-replicate}
-use Rattle.std.specs.Prelude.{Option, Result, Ok, Err, IfErr, IfOk, IfSome, IsSome, ◌⊎◌}
+use Rattle.std.specs.Prelude.{Option, Result, Ok, Err, IfErr, IfSome}
 use Rattle.psl_model.specs.Limits.{unit_text_limit}
 use Rattle.mbac_io.specs.Device.{WhereTold, Keeps, TakesAll, TakesSome}
 use Rattle.mbac_top.specs.declared.outcome.Cause.{Cause}
 use Rattle.mbac_top.specs.declared.outcome.Cause.TheVariants.{Done, Usage, ReadFault, WriteFault, OutOfMemory}
 use Rattle.mbac_top.specs.declared.outcome.Cause.TheVariants.{InputTooLong, Unbuilt}
-use Rattle.mbac_top.specs.Words.{IsCompile, IsCommand, slots_of, limit_of}
+use Rattle.mbac_top.specs.Words.{IsCompile, limit_of}
 use Rattle.mbac_top.specs.Words.Command.{compile}
-use Rattle.mbac_top.specs.Call.{Change, Call, Contents, MayHave, Had, FaultRose}
-use Rattle.mbac_top.specs.Compile.{IsUnit, IsCompiledTo, IsRefusedUnit}
-use Rattle.mbac_top.specs.Causes.{IsCause, IsDue, slots_for, ComesFor, MeetsBytes}
-use Rattle.mbac_top.specs.inner.Ending.{IsWhyUncompiled, HasShort, IsTextOf, IsWhyUnread, WritesText, ReadsOnly}
+use Rattle.mbac_top.specs.Call.{Change, Call, Contents, MayHave}
+use Rattle.mbac_top.specs.Compile.{IsUnit}
+use Rattle.mbac_top.specs.Causes.{IsCause, IsDue}
+use Rattle.mbac_top.specs.inner.Ending.{IsWhyUncompiled, IsTextOf, IsWhyUnread, WritesText, ReadsOnly}
 
 -- Bytes that a slot may have had.
 

@@ -1,6 +1,6 @@
 -- What one call of `run` was given, and what it did to its inputs and its output. What it did to `notes`
 -- has no place here: no answer hangs on it.
-use Rattle.std.specs.Prelude.{◌≡◌, ℕ, ◌<◌, List, IfSome, IsSome, Option, Some}
+use Rattle.std.specs.Prelude.{◌≡◌, ℕ, List, IfSome, IsSome, Option, Some}
 use Rattle.mbac_io.specs.Device.{Rose, Keeps, Appends, AppendsPart}
 
 -- what a call did to a slot or to the output: the bytes, left or taken, that it tells, and its count of faults

@@ -5,7 +5,7 @@ use Rattle.mbac_top.specs.declared.outcome.Cause.TheVariants.{Done, Usage, ReadF
 use Rattle.mbac_top.specs.declared.outcome.Cause.TheVariants.{InputTooLong}
 use Rattle.mbac_top.specs.Words.{Command, Says, IsCommand, slots_of, Reads, limit_of}
 use Rattle.mbac_top.specs.Words.Command.{compile}
-use Rattle.mbac_top.specs.Call.{Change, Call, FaultRose, Writes, WritesPart, Contents, MayHave, Had}
+use Rattle.mbac_top.specs.Call.{Call, FaultRose, Writes, WritesPart, Contents, MayHave, Had}
 use Rattle.mbac_top.specs.Compile.{IsUnit, IsCompiledTo, IsRefusedUnit}
 
 -- What a command makes of its slots, each of which is within its limit: one row a command.

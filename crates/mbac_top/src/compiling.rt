@@ -1,6 +1,6 @@
 //! From the bytes of a unit to a checker text.
 
-ghost use Rattle.std.specs.Prelude.{◌≡◌, ◌≢◌, IfOk, IfErr};
+ghost use Rattle.std.specs.Prelude.{IfOk, IfErr};
 ghost use Rattle.mbac_top.specs.Compile.{IsCompiledTo};
 ghost use Rattle.mbac_top.specs.inner.Ending.{IsWhyUncompiled};
 

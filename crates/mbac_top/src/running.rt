@@ -3,7 +3,7 @@
 ghost use Rattle.std.specs.Prelude.{◌≡◌, ◌≢◌, ◌≤◌, ◌↔◌, ◌⊎◌, ℕ, map, string_bytes, IfOk, IfErr};
 ghost use Rattle.mbac_io.specs.Device.{Rose, TakesSome, Appends, AppendsPart};
 ghost use Rattle.mbac_top.specs.Words.{Command, Says, IsCommand, Reads};
-ghost use Rattle.mbac_top.specs.Call.{Call, slot_changes, sink_change, IsLeftAlone};
+ghost use Rattle.mbac_top.specs.Call.{slot_changes, sink_change, IsLeftAlone};
 ghost use Rattle.mbac_top.specs.Causes.{IsCause, MeetsBytes};
 ghost use Rattle.mbac_top.specs.Messages.{status_of, message_of};
 ghost use Rattle.mbac_top.specs.inner.Ending.{IsTextOf, IsWhyUnread, WritesText, ReadsOnly};
@@ -18,11 +18,11 @@ use std::alloc::Global;
 /// The most bytes of a unit's text.
 const UNIT_TEXT_LIMIT: usize = 1_048_576;
 
-/// Does what the words after the program's name say. `out` is where the text goes, and `notes` where
-/// a message goes that says why there is none.
+/// Does what the words after the program's name say: `compile` reads slot 0 and writes the text of its
+/// checkers to `out`. `notes` takes a message where there is no whole text.
 ///
-/// Want of memory may come in place of any answer but `Usage`, and never after the first write to
-/// `out`.
+/// The table of causes says when each answer comes. Want of memory may come in place of any answer but
+/// `Usage`, and never after the first write to `out`.
 pub fn run<I: Inputs, O: Sink, N: Sink>(
     alloc: Global,
     words: &[String],
@@ -54,12 +54,13 @@ pub fn run<I: Inputs, O: Sink, N: Sink>(
     ensures unwritten { result.cause ≢ Cause.Done → result.cause ≢ Cause.WriteFault → out.new ≡ out.old }
     ensures silent { result.cause ≡ Cause.Done → notes.new ≡ notes.old }
 
-    // What people are told.
+    // What people are told: the message, or a part of it where `notes` failed.
     ensures told { result.cause ≢ Cause.Done →
         Appends (N.taken notes.old) (N.taken notes.new) (message_of result.cause)
         ⊎ (AppendsPart (N.taken notes.old) (N.taken notes.new) (message_of result.cause)
         × Rose (N.faults notes.old) (N.faults notes.new)) }
 
+    // Counts of faults.
     ensures inputs_never_fall { (slot : ℕ) → I.faults inputs.old slot ≤ I.faults inputs.new slot }
     ensures out_never_falls { O.faults out.old ≤ O.faults out.new }
     ensures notes_never_fall { N.faults notes.old ≤ N.faults notes.new }

@@ -1,4 +1,4 @@
-use Rattle.std.proofs.Common.{rules, arith, List, ℕ, ◌+◌, ◌∙◌, subst, sym, drop, take, ap, ◌++◌}
+use Rattle.std.proofs.Common.{rules, arith, List, ℕ, ◌+◌, subst, sym, drop}
 use Rattle.std.specs.Prelude.{IsErr}
 use Rattle.mbac_io.specs.Device.{AppendsPart}
 use Rattle.mbac_top.specs.Messages.{numbers_of}

@@ -1,4 +1,3 @@
-use Rattle.std.proofs.Common.{rules, sym, ap, subst, List, ℕ, [], ◌∷◌, ◌∙◌}
 use Rattle.mbac_top.proofs.message.write_words.Goals as goal
 
 pub returns-in-WriteFault : goal.returns-in-WriteFault

@@ -1,6 +1,6 @@
-use Rattle.std.proofs.Common.{List, ℕ, map, string_bytes, rules, sym, subst}
+use Rattle.std.proofs.Common.{List, ℕ, rules, sym, subst}
 use Rattle.std.specs.Prelude.{IsSome}
-use Rattle.mbac_top.specs.Call.{Call, slot_changes, sink_change}
+use Rattle.mbac_top.specs.Call.{slot_changes}
 use Rattle.mbac_top.specs.inner.Ending.{IsTextOf}
 use Rattle.mbac_top.proofs.Ending.{refused, written}
 use Rattle.mbac_top.proofs.running.answer.Goals as goal

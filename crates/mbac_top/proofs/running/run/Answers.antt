@@ -1,6 +1,3 @@
-use Rattle.std.proofs.Common.{sym, subst}
-use Rattle.mbac_top.specs.declared.outcome.Cause.{Cause}
-use Rattle.mbac_top.specs.Causes.{MeetsBytes}
 use Rattle.mbac_top.proofs.Due.{meets}
 use Rattle.mbac_top.proofs.Ending.{front_taken}
 use Rattle.mbac_top.proofs.running.run.Goals as goal
