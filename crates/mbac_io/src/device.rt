@@ -1,5 +1,6 @@
 ghost use Rattle.std.specs.Prelude.{◌≡◌, ◌≢◌, ℕ, ◌<◌, ◌≤◌, List, length, take, IfOk, OnErr, Option};
 ghost use Rattle.mbac_io.specs.Device.{Rose, Keeps, Takes, IsAtEnd, Appends};
+ghost use Rattle.mbac_io.specs.Faults.{AreCountedApart};
 
 /// A device could not do what it was asked.
 #[derive(Clone, Copy, Debug, PartialEq, Eq)]
@@ -13,7 +14,7 @@ pub trait Inputs {
     ghost left: { Self → ℕ → Option (List ℕ) };
 
     /// How many faults a slot has met. A count that would pass the end of its type, a `u64`, stands
-    /// still there.
+    /// still there. Slots 0 and 1 each have a count of their own.
     ghost faults: { Self → ℕ → ℕ };
 
     /// Takes the slot's next bytes into the front of the buffer, and says how many: 0 says that
@@ -22,12 +23,15 @@ pub trait Inputs {
     fn read(&mut self, slot: u32, buffer: &mut [u8]) -> Result<usize, Failed>
         requires { 0 < length buffer.old }
         ensures within { IfOk result (λ count. count ≤ length buffer.new) }
-        ensures taken { IfOk result (λ count. Takes (left self.old slot) (left self.new slot) (take count buffer.new)) }
+        ensures taken { IfOk result (λ count.
+            Takes (left self.old slot) (left self.new slot) (take count buffer.new)) }
         ensures end { result ≡ Ok 0 → IsAtEnd (left self.new slot) }
         ensures failed_takes_nothing { OnErr result (Keeps (left self.old slot) (left self.new slot)) }
         ensures failed_rose { OnErr result (Rose (faults self.old slot) (faults self.new slot)) }
         ensures others_kept { (other : ℕ) → other ≢ slot → Keeps (left self.old other) (left self.new other) }
-        ensures never_falls { (any : ℕ) → faults self.old any ≤ faults self.new any };
+        ensures never_falls { (any : ℕ) → faults self.old any ≤ faults self.new any }
+        ensures counted_apart { (other : ℕ) → AreCountedApart slot other →
+            faults self.new other ≡ faults self.old other };
 }
 
 /// A sink that takes bytes one after another.

@@ -4,6 +4,7 @@
 mod device;
 mod memory_inputs;
 mod memory_sink;
+mod pieces;
 mod reading;
 mod slot_faults;
 mod std_inputs;
@@ -13,6 +14,7 @@ mod writing;
 pub use device::{Failed, Inputs, Sink};
 pub use memory_inputs::MemoryInputs;
 pub use memory_sink::MemorySink;
+pub use pieces::pieces_make_a_text;
 pub use reading::{ReadError, read_all};
 pub use std_inputs::StdInputs;
 pub use std_sink::StdSink;

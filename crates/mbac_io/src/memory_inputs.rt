@@ -1,6 +1,7 @@
-ghost use Rattle.std.specs.Prelude.{◌≡◌, ◌≢◌, ℕ, ◌<◌, ◌≤◌, ◌↔◌, ◌++◌, [], length, take, drop, min, IfOk, OnOk, OnErr, IsErr, Contains};
+ghost use Rattle.std.specs.Prelude.{◌≡◌, ◌≢◌, ℕ, ◌<◌, ◌≤◌, ◌↔◌, ◌++◌, [], length, take, drop, min, IfOk};
+ghost use Rattle.std.specs.Prelude.{OnOk, OnErr, IsErr, Contains};
 ghost use Rattle.mbac_io.specs.Device.{Rose};
-ghost use Rattle.mbac_io.specs.Faults.{faults_of, next_count};
+ghost use Rattle.mbac_io.specs.Faults.{next_count, faults_of, AreCountedApart};
 ghost use Rattle.mbac_io.specs.MemoryDevices.{contents, file_at, left_of};
 
 use crate::device::{Failed, Inputs};
@@ -20,6 +21,7 @@ pub struct MemoryInputs {
 impl Model for MemoryInputs {
     ghost use Rattle.std.specs.Prelude.{◌<◌};
     ghost use Rattle.mbac_io.specs.MemoryDevices.{FilesInMemory, contents};
+    ghost use Rattle.mbac_io.specs.inner.SlotCounts.{counts_of};
 
     ghost Value = { FilesInMemory };
 
@@ -28,7 +30,7 @@ impl Model for MemoryInputs {
       most = inputs.most;
       fail_at = inputs.fail_at.items;
       call = inputs.call;
-      faults = inputs.faults;
+      faults = counts_of inputs.faults;
     } };
 
     ghost invariant = { λ inputs. 0 < inputs.most };
@@ -76,10 +78,13 @@ impl Inputs for MemoryInputs {
         ensures failed_rose { OnErr result (Rose (faults_of self.old.faults slot) (faults_of self.new.faults slot)) }
         ensures others_kept { (other : ℕ) → other ≢ slot → left_of self.new other ≡ left_of self.old other }
         ensures never_falls { (any : ℕ) → faults_of self.old.faults any ≤ faults_of self.new.faults any }
+        ensures counted_apart { (other : ℕ) → AreCountedApart slot other →
+            faults_of self.new.faults other ≡ faults_of self.old.faults other }
 
         // What these inputs promise besides.
         ensures fails_exactly { IsErr result ↔ Contains self.old.fail_at self.old.call }
-        ensures count { IfOk result (λ count. count ≡ min (length buffer.old) (min self.old.most (length (left_of self.old slot)))) }
+        ensures count { IfOk result (λ count.
+            count ≡ min (length buffer.old) (min self.old.most (length (left_of self.old slot)))) }
         ensures next_call { self.new.call ≡ next_count self.old.call }
         ensures same_most { self.new.most ≡ self.old.most }
         ensures same_fail_at { self.new.fail_at ≡ self.old.fail_at }
@@ -101,8 +106,10 @@ impl Inputs for MemoryInputs {
 fn read_file(files: &mut Vec<Vec<u8>>, slot: u32, buffer: &mut [u8], most: usize) -> usize
     ensures count { result ≡ min (length buffer.old) (min most (length (file_at (contents files.old.items) slot))) }
     ensures within { result ≤ length buffer.new }
-    ensures taken { file_at (contents files.old.items) slot ≡ take result buffer.new ++ file_at (contents files.new.items) slot }
-    ensures others { (other : ℕ) → other ≢ slot → file_at (contents files.new.items) other ≡ file_at (contents files.old.items) other }
+    ensures taken { file_at (contents files.old.items) slot ≡
+        take result buffer.new ++ file_at (contents files.new.items) slot }
+    ensures others { (other : ℕ) → other ≢ slot →
+        file_at (contents files.new.items) other ≡ file_at (contents files.old.items) other }
 {
     let Some(file) = files.get_mut(slot as usize) else {
         return 0;

@@ -1,4 +1,5 @@
-ghost use Rattle.std.specs.Prelude.{◌≡◌, ◌≢◌, ℕ, ◌-◌, ◌<◌, ◌≤◌, ◌↔◌, ◌⊎◌, ◌++◌, [], length, take, min, IfOk, OnOk, OnErr, IsErr, IsOk, Contains};
+ghost use Rattle.std.specs.Prelude.{◌≡◌, ◌≢◌, ℕ, ◌-◌, ◌<◌, ◌≤◌, ◌↔◌, ◌⊎◌, ◌++◌, [], length, take, min, IfOk};
+ghost use Rattle.std.specs.Prelude.{OnOk, OnErr, IsErr, IsOk, Contains};
 ghost use Rattle.mbac_io.specs.Device.{Rose};
 ghost use Rattle.mbac_io.specs.Faults.{next_count};
 
@@ -33,7 +34,7 @@ impl Model for MemorySink {
       faults = sink.faults;
     } };
 
-    ghost invariant = { λ sink. (0 < sink.most) × (vec_len sink.taken ≤ sink.room) × (sink.room ≤ vec_capacity sink.taken) };
+    ghost invariant = { λ s. (0 < s.most) × (vec_len s.taken ≤ s.room) × (s.room ≤ vec_capacity s.taken) };
 }
 
 impl MemorySink {
@@ -92,8 +93,10 @@ impl Sink for MemorySink {
         ensures never_falls { self.old.faults ≤ self.new.faults }
 
         // What this sink promises besides.
-        ensures fails_exactly { IsErr result ↔ (Contains self.old.fail_at self.old.call ⊎ (length self.old.taken ≡ self.old.room)) }
-        ensures count { IfOk result (λ count. count ≡ min (length bytes.now) (min self.old.most (self.old.room - length self.old.taken))) }
+        ensures fails_exactly { IsErr result ↔
+            (Contains self.old.fail_at self.old.call ⊎ (length self.old.taken ≡ self.old.room)) }
+        ensures count { IfOk result (λ count.
+            count ≡ min (length bytes.now) (min self.old.most (self.old.room - length self.old.taken))) }
         ensures next_call { self.new.call ≡ next_count self.old.call }
         ensures same_room { self.new.room ≡ self.old.room }
         ensures same_most { self.new.most ≡ self.old.most }

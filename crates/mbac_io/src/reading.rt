@@ -1,5 +1,6 @@
 ghost use Rattle.std.specs.Prelude.{◌≡◌, ◌≢◌, ℕ, ◌<◌, ◌≤◌, ◌⊎◌, length, vec_len, IfOk};
 ghost use Rattle.mbac_io.specs.Device.{Rose, WhereTold, Keeps, TakesSome, TakesAll};
+ghost use Rattle.mbac_io.specs.Faults.{AreCountedApart};
 
 use crate::device::{Failed, Inputs};
 use std::alloc::{AllocError, Global};
@@ -49,18 +50,23 @@ pub fn read_all<I: Inputs>(
     limit: usize,
 ) -> Result<Vec<u8>, ReadError>
     requires { 0 < limit }
-    ensures whole { IfOk result (λ bytes. TakesAll (I.left inputs.old slot) (I.left inputs.new slot) bytes.items) }
+    ensures whole { IfOk result (λ bytes.
+        TakesAll (I.left inputs.old slot) (I.left inputs.new slot) bytes.items) }
     ensures within { IfOk result (λ bytes. vec_len bytes ≤ limit) }
 
     // More bytes than the limit end in `TooLong`, unless a read fails or memory runs out before.
-    ensures too_long_only { result ≡ Err ReadError.TooLong → WhereTold (I.left inputs.old slot) (I.left inputs.new slot) (λ bytes. limit < length bytes) }
-    ensures too_long_where { WhereTold (I.left inputs.old slot) (I.left inputs.new slot) (λ bytes. limit < length bytes →
+    ensures too_long_only { result ≡ Err ReadError.TooLong →
+        WhereTold (I.left inputs.old slot) (I.left inputs.new slot) (λ bytes. limit < length bytes) }
+    ensures too_long_where { WhereTold (I.left inputs.old slot) (I.left inputs.new slot) (λ bytes.
+        limit < length bytes →
         (result ≡ Err ReadError.TooLong) ⊎ (result ≡ Err ReadError.Failed) ⊎ (result ≡ Err ReadError.OutOfMemory)) }
     ensures failed_rose { result ≡ Err ReadError.Failed → Rose (I.faults inputs.old slot) (I.faults inputs.new slot) }
 
     ensures front_taken { TakesSome (I.left inputs.old slot) (I.left inputs.new slot) }
     ensures others_kept { (other : ℕ) → other ≢ slot → Keeps (I.left inputs.old other) (I.left inputs.new other) }
     ensures never_falls { (any : ℕ) → I.faults inputs.old any ≤ I.faults inputs.new any }
+    ensures counted_apart { (other : ℕ) → AreCountedApart slot other →
+        I.faults inputs.new other ≡ I.faults inputs.old other }
 {
     let mut bytes = Vec::new(alloc);
     let mut piece = [0; PIECE];

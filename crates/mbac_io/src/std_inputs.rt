@@ -1,5 +1,4 @@
 ghost use Rattle.std.specs.Prelude.{◌≡◌, ℕ, ◌<◌, ◌≤◌, length, IfOk};
-ghost use Rattle.mbac_io.specs.Faults.{faults_of};
 
 use crate::device::{Failed, Inputs};
 use crate::slot_faults::SlotFaults;
@@ -29,11 +28,12 @@ enum Source<'a, F> {
 
 // Contracts see its counts of faults alone.
 impl<'a, R: Files> Model for StdInputs<'a, R> {
-    ghost use Rattle.mbac_io.specs.declared.slot_faults.SlotFaults as counts;
+    ghost use Rattle.mbac_io.specs.Faults.{SlotCounts};
+    ghost use Rattle.mbac_io.specs.inner.SlotCounts.{counts_of};
 
-    ghost Value = { counts.SlotFaults };
+    ghost Value = { SlotCounts };
 
-    ghost view = { λ inputs. inputs.faults };
+    ghost view = { λ inputs. counts_of inputs.faults };
 }
 
 impl<'a, R: Files> StdInputs<'a, R> {

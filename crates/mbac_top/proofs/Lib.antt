@@ -1,6 +1,8 @@
 mod FrontLemmas
 mod ThinReading
-mod Explaining
+mod Ending
+mod Pieces
+mod Due
 mod ThinNames
 mod ThinChecker
 mod Compiled

@@ -1,5 +1,6 @@
 -- The text of the negation checker checks a unit in the thin form.
-use Rattle.std.proofs.Common.{◌≡◌, ℕ, zero, suc, List, [], ◌∷◌, ◌++◌, refl, ap, sym, ◌∙◌, arith, append-nil, append_assoc}
+use Rattle.std.proofs.Common.{◌≡◌, ℕ, zero, suc, List, [], ◌∷◌, ◌++◌, refl, ap, sym, ◌∙◌, arith, append-nil}
+use Rattle.std.proofs.Common.{append_assoc}
 use Rattle.std.specs.Prelude.{◌≢◌, All, AllPairs, codes, decimal}
 use Rattle.std.proofs.lemmas.Fmt.{decimal_digit}
 use Rattle.psl_model.specs.declared.names.Signal.{Signal}
@@ -11,7 +12,7 @@ use Rattle.checker_meaning.specs.Checks.{Checks}
 use Rattle.checker_meaning.specs.Headline.{ChecksUnit}
 use Rattle.checker_meaning.specs.NegationChecker.{negation_checker}
 use Rattle.mbac_top.specs.ThinForm.{IsThinName, thin_unit}
-use Rattle.mbac_top.specs.ThinChecker.{thin_module_name, thin_port}
+use Rattle.mbac_top.specs.inner.ThinChecker.{thin_module_name, thin_port}
 use Rattle.mbac_top.proofs.ThinNames.{usable, module_identifier, module_prefix}
 
 -- what holds of the one element of a list
@@ -34,7 +35,8 @@ lawful name signal thin_name thin_signal = record {
   identifier = module_identifier name thin_name;
   prefix = module_prefix name;
   report = tt;
-  ports = one IsPort (thin_port signal) (record { name = usable signal thin_signal; width = (omega arith, omega arith) });
+  ports = one IsPort (thin_port signal)
+      (record { name = usable signal thin_signal; width = (omega arith, omega arith) });
   distinct = one_alone (λ p q. p ≢ q) signal;
   registers = none _;
   wires = λ place. tt;
@@ -47,8 +49,10 @@ named name =
     sym (append_assoc (codes "mbac_" ++ name) (codes "_") (codes "1"))
     ∙ ap (λ digits. codes "mbac_" ++ name ++ codes "_" ++ digits) (sym (decimal_digit 1 (omega arith)))
 
-pub checks_unit : ((name : List ℕ) (port : Signal) → Checks (port.width ∷ []) (0 ∷ []) (negation_checker name port) (always (bool (whole 0)))) →
-    (name signal text : List ℕ) → IsThinName name → IsThinName signal → text ≡ spelling (thin_module name signal) → ChecksUnit (thin_unit name signal) text
+pub checks_unit : ((name : List ℕ) (port : Signal) →
+    Checks (port.width ∷ []) (0 ∷ []) (negation_checker name port) (always (bool (whole 0)))) →
+    (name signal text : List ℕ) → IsThinName name → IsThinName signal → text ≡ spelling (thin_module name signal) →
+    ChecksUnit (thin_unit name signal) text
 checks_unit law name signal text thin_name thin_signal spelled = (
   thin_module name signal ∷ [],
   record {
@@ -56,9 +60,19 @@ checks_unit law name signal text thin_name thin_signal spelled = (
     lawful = one IsLawful (thin_module name signal) (lawful name signal thin_name thin_signal);
     distinct = one_alone (λ m n. m ≢ n) (thin_module_name name);
   },
-  (record { name = named name; report = refl; ports = refl; checks = law (thin_module_name name) (thin_port signal) }, tt),
+  (
+    record {
+      name = named name;
+      report = refl;
+      ports = refl;
+      checks =
+          law (thin_module_name name) (thin_port signal);
+    },
+    tt,
+  ),
 )
 
 -- what is printed into an empty text
-pub printed : (before after : List ℕ) (m n : Module) → before ≡ [] → m ≡ n → after ≡ before ++ spelling m → after ≡ spelling n
+pub printed : (before after : List ℕ) (m n : Module) → before ≡ [] → m ≡ n → after ≡ before ++ spelling m →
+    after ≡ spelling n
 printed before after m n empty same grown = grown ∙ ap (λ b. b ++ spelling m) empty ∙ ap spelling same

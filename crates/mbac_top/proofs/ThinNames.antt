@@ -10,7 +10,7 @@ use Rattle.std.proofs.lemmas.Slice.Eq.{bytes_eq-Decides}
 use Rattle.psl_model.specs.Reserved.{language_words, left_out_words, verilog_words}
 use Rattle.psl_model.specs.Names.{between, begins_name, continues_name, IsIdentifier, checker_prefix, IsUsableName}
 use Rattle.mbac_top.specs.ThinForm.{is_digit, IsThinName}
-use Rattle.mbac_top.specs.ThinChecker.{thin_module_name}
+use Rattle.mbac_top.specs.inner.ThinChecker.{thin_module_name}
 use Rattle.mbac_top.proofs.FrontLemmas.{both_true}
 
 letter_begins : (byte : ℕ) → between 97 122 byte ≡ true → begins_name byte ≡ true
@@ -41,10 +41,12 @@ both_tests : (b : Bool) → b ≡ true → not b ≡ true → ⊥
 both_tests true is refused = cc
 both_tests false is refused = cc
 
-not_thin_words : (words : List (List ℕ)) → list_all (λ word. not (is_thin_word word)) words ≡ true → (name : List ℕ) → IsThinName name → ¬ Contains words name
+not_thin_words : (words : List (List ℕ)) → list_all (λ word. not (is_thin_word word)) words ≡ true →
+    (name : List ℕ) → IsThinName name → ¬ Contains words name
 not_thin_words words none name thin found =
     let each = AllPass-from_list_all (λ (word : List ℕ). not (is_thin_word word)) words none in
-    let refused : not (is_thin_word name) ≡ true = All-contains (λ (word : List ℕ). not (is_thin_word word) ≡ true) words name each found in
+    let refused : not (is_thin_word name) ≡ true =
+    All-contains (λ (word : List ℕ). not (is_thin_word word) ≡ true) words name each found in
     let accepted = thin_word name thin in
     both_tests (is_thin_word name) accepted refused
 
@@ -93,7 +95,8 @@ usable name thin = record {
 
 name_continues : (name : List ℕ) → IsThinName name → list_all continues_name name ≡ true
 name_continues [] thin = absurd thin
-name_continues (byte ∷ bytes) thin = rw (begins_continues byte (letter_begins byte thin.0), digits_continue bytes thin.1) refl
+name_continues (byte ∷ bytes) thin =
+    rw (begins_continues byte (letter_begins byte thin.0), digits_continue bytes thin.1) refl
 
 pub module_identifier : (name : List ℕ) → IsThinName name → IsIdentifier (thin_module_name name)
 module_identifier name thin =

@@ -1,15 +1,21 @@
 -- The reader finds the names of each text of the thin form, and of no other.
-use Rattle.std.proofs.Common.{◌≡◌, ℕ, Bool, true, false, cond, List, [], ◌∷◌, ◌++◌, length, refl, ap, sym, ◌∙◌, arith, subst, Some, None, append_assoc, append-nil}
+use Rattle.std.proofs.Common.{◌≡◌, ℕ, Bool, true, false, cond, List, [], ◌∷◌, ◌++◌, length, refl, ap, sym}
+use Rattle.std.proofs.Common.{◌∙◌, arith, subst, Some, None, append_assoc, append-nil}
 use Rattle.std.specs.Prelude.{◌≢◌, Option, codes, ◌==◌}
 use Rattle.std.proofs.lemmas.Bool.Decides.{nat_tests}
 use Rattle.std.proofs.lemmas.List.{nil_from_length}
 use Rattle.std.specs.List.{prefix_len, list_all}
-use Rattle.mbac_top.specs.ThinForm.{is_blank, is_digit, AreBlanks, IsThinName, IsThinForm, Token, word, mark, SpellsAfter}
-use Rattle.mbac_top.specs.Reading.{after_blanks, after_text, after_gap, ◌>>=◌, unit_part, assertion_part, end_part, names_in}
-use Rattle.mbac_top.proofs.FrontLemmas.{none_some, some_pair, both_true, after_blanks-gap, after_gap-gap, after_text-text, name_begins, name_and_rest-name, after_blanks-only, after_gap-only, after_text-only, name_and_rest-only}
+use Rattle.mbac_top.specs.ThinForm.{is_blank, is_digit, AreBlanks, IsThinName, IsThinForm, Token, word, mark}
+use Rattle.mbac_top.specs.ThinForm.{SpellsAfter}
+use Rattle.mbac_top.specs.inner.Reading.{after_blanks, after_text, after_gap, ◌>>=◌, unit_part}
+use Rattle.mbac_top.specs.inner.Reading.{assertion_part, end_part, names_in}
+use Rattle.mbac_top.proofs.FrontLemmas.{none_some, some_pair, both_true, after_blanks-gap, after_gap-gap}
+use Rattle.mbac_top.proofs.FrontLemmas.{after_text-text, name_begins, name_and_rest-name, after_blanks-only}
+use Rattle.mbac_top.proofs.FrontLemmas.{after_gap-only, after_text-only, name_and_rest-only}
 
 -- where a step gives something, what it gave
-pub bind_some : {A B : Type 0} (o : Option A) (f : A → Option B) (y : B) → (o >>= f) ≡ Some y → (x : A) × (o ≡ Some x) × (f x ≡ Some y)
+pub bind_some : {A B : Type 0} (o : Option A) (f : A → Option B) (y : B) → (o >>= f) ≡ Some y →
+    (x : A) × (o ≡ Some x) × (f x ≡ Some y)
 bind_some None f y e = absurd (none_some y e)
 bind_some (Some x) f y e = (x, refl, e)
 
@@ -17,12 +23,15 @@ pub some_bind : {A B : Type 0} (o : Option A) (f : A → Option B) (x : A) → o
 some_bind o f x e = rw e refl
 
 -- a text behind a gap
-text_after : (gap text rest : List ℕ) → AreBlanks gap → prefix_len is_blank (text ++ rest) ≡ 0 → after_text text (after_blanks (gap ++ text ++ rest)) ≡ Some rest
+text_after : (gap text rest : List ℕ) → AreBlanks gap → prefix_len is_blank (text ++ rest) ≡ 0 →
+    after_text text (after_blanks (gap ++ text ++ rest)) ≡ Some rest
 text_after gap text rest blanks begins =
-    ap (after_text text) (ap after_blanks (append_assoc gap text rest) ∙ after_blanks-gap gap (text ++ rest) blanks begins) ∙ after_text-text text rest
+    ap (after_text text) (ap after_blanks (append_assoc gap text rest)
+    ∙ after_blanks-gap gap (text ++ rest) blanks begins) ∙ after_text-text text rest
 
 -- what stands behind a gap begins there
-gap_after : (gap text rest : List ℕ) → AreBlanks gap → gap ≢ [] → prefix_len is_blank (text ++ rest) ≡ 0 → after_gap (gap ++ text ++ rest) ≡ Some (text ++ rest)
+gap_after : (gap text rest : List ℕ) → AreBlanks gap → gap ≢ [] → prefix_len is_blank (text ++ rest) ≡ 0 →
+    after_gap (gap ++ text ++ rest) ≡ Some (text ++ rest)
 gap_after gap text rest blanks some begins =
     ap after_gap (append_assoc gap text rest) ∙ after_gap-gap gap (text ++ rest) blanks some begins
 
@@ -30,9 +39,11 @@ blank_no_digit : (b : ℕ) → is_blank b ≡ true → is_digit b ≡ false
 blank_no_digit b e = grind (arith, nat_tests)
 
 -- a gap and what is no digit begin with no digit
-no_digit : (gap text rest : List ℕ) → AreBlanks gap → prefix_len is_digit (text ++ rest) ≡ 0 → prefix_len is_digit (gap ++ text ++ rest) ≡ 0
+no_digit : (gap text rest : List ℕ) → AreBlanks gap → prefix_len is_digit (text ++ rest) ≡ 0 →
+    prefix_len is_digit (gap ++ text ++ rest) ≡ 0
 no_digit [] text rest blanks begins = begins
-no_digit (b ∷ gap) text rest blanks begins = rw (blank_no_digit b (both_true (is_blank b) (list_all is_blank gap) blanks).0) refl
+no_digit (b ∷ gap) text rest blanks begins =
+    rw (blank_no_digit b (both_true (is_blank b) (list_all is_blank gap) blanks).0) refl
 
 -- the three parts, where a text is spelled so
 
@@ -45,28 +56,38 @@ assertion_tokens signal tokens = word (codes "assert") ∷ word (codes "always")
 abbrev end_tokens : List Token
 end_tokens = mark (codes ";") ∷ mark (codes "}") ∷ []
 
-unit_reads : (bytes name : List ℕ) (tokens : List Token) → IsThinName name → (s : SpellsAfter (mark []) (unit_tokens name tokens) bytes) → unit_part bytes ≡ Some (name, s.5.5.1)
+unit_reads : (bytes name : List ℕ) (tokens : List Token) → IsThinName name →
+    (s : SpellsAfter (mark []) (unit_tokens name tokens) bytes) → unit_part bytes ≡ Some (name, s.5.5.1)
 unfolding unit_part
 unit_reads bytes name tokens thin s =
     let n = s.5 in
     let o = n.5 in
-    let opened : after_text (codes "vunit") (after_blanks bytes) ≡ Some s.1 = ap (λ b. after_text (codes "vunit") (after_blanks b)) s.4 ∙ text_after s.0 (codes "vunit") s.1 s.2 refl in
-    let gap : after_gap s.1 ≡ Some (name ++ n.1) = ap after_gap n.4 ∙ gap_after n.0 name n.1 n.2 n.3 (name_begins name n.1 thin) in
+    let opened : after_text (codes "vunit") (after_blanks bytes) ≡ Some s.1 =
+    ap (λ b. after_text (codes "vunit") (after_blanks b)) s.4 ∙ text_after s.0 (codes "vunit") s.1 s.2 refl in
+    let gap : after_gap s.1 ≡ Some (name ++ n.1) = ap after_gap n.4
+    ∙ gap_after n.0 name n.1 n.2 n.3 (name_begins name n.1 thin) in
     let ends : prefix_len is_digit n.1 ≡ 0 = ap (prefix_len is_digit) o.4 ∙ no_digit o.0 (codes "{") o.1 o.2 refl in
     let named = name_and_rest-name name n.1 thin ends in
-    let rest : after_text (codes "{") (after_blanks n.1) ≡ Some o.1 = ap (λ b. after_text (codes "{") (after_blanks b)) o.4 ∙ text_after o.0 (codes "{") o.1 o.2 refl in
+    let rest : after_text (codes "{") (after_blanks n.1) ≡ Some o.1 =
+    ap (λ b. after_text (codes "{") (after_blanks b)) o.4 ∙ text_after o.0 (codes "{") o.1 o.2 refl in
     rw (opened, gap, named, rest) refl
 
-assertion_reads : (bytes signal : List ℕ) (first : List ℕ) (tokens : List Token) → IsThinName signal → (s : SpellsAfter (mark first) (assertion_tokens signal (mark (codes ";") ∷ tokens)) bytes) → assertion_part bytes ≡ Some (signal, s.5.5.1)
+assertion_reads : (bytes signal : List ℕ) (first : List ℕ) (tokens : List Token) → IsThinName signal →
+    (s : SpellsAfter (mark first) (assertion_tokens signal (mark (codes ";") ∷ tokens)) bytes) →
+    assertion_part bytes ≡ Some (signal, s.5.5.1)
 unfolding assertion_part
 assertion_reads bytes signal first tokens thin s =
     let w = s.5 in
     let n = w.5 in
     let e = n.5 in
-    let asserted : after_text (codes "assert") (after_blanks bytes) ≡ Some s.1 = ap (λ b. after_text (codes "assert") (after_blanks b)) s.4 ∙ text_after s.0 (codes "assert") s.1 s.2 refl in
-    let gap : after_gap s.1 ≡ Some (codes "always" ++ w.1) = ap after_gap w.4 ∙ gap_after w.0 (codes "always") w.1 w.2 w.3 refl in
-    let always : after_text (codes "always") (codes "always" ++ w.1) ≡ Some w.1 = after_text-text (codes "always") w.1 in
-    let next : after_gap w.1 ≡ Some (signal ++ n.1) = ap after_gap n.4 ∙ gap_after n.0 signal n.1 n.2 n.3 (name_begins signal n.1 thin) in
+    let asserted : after_text (codes "assert") (after_blanks bytes) ≡ Some s.1 =
+    ap (λ b. after_text (codes "assert") (after_blanks b)) s.4 ∙ text_after s.0 (codes "assert") s.1 s.2 refl in
+    let gap : after_gap s.1 ≡ Some (codes "always" ++ w.1) = ap after_gap w.4
+    ∙ gap_after w.0 (codes "always") w.1 w.2 w.3 refl in
+    let always : after_text (codes "always") (codes "always" ++ w.1) ≡ Some w.1 =
+    after_text-text (codes "always") w.1 in
+    let next : after_gap w.1 ≡ Some (signal ++ n.1) = ap after_gap n.4
+    ∙ gap_after n.0 signal n.1 n.2 n.3 (name_begins signal n.1 thin) in
     let ends : prefix_len is_digit n.1 ≡ 0 = ap (prefix_len is_digit) e.4 ∙ no_digit e.0 (codes ";") e.1 e.2 refl in
     let named = name_and_rest-name signal n.1 thin ends in
     rw (asserted, gap, always, next, named) refl
@@ -75,8 +96,10 @@ end_reads : (bytes last : List ℕ) → SpellsAfter (word last) end_tokens bytes
 unfolding end_part
 end_reads bytes last s =
     let c = s.5 in
-    let ended : after_text (codes ";") (after_blanks bytes) ≡ Some s.1 = ap (λ b. after_text (codes ";") (after_blanks b)) s.4 ∙ text_after s.0 (codes ";") s.1 s.2 refl in
-    let closed : after_text (codes "}") (after_blanks s.1) ≡ Some c.1 = ap (λ b. after_text (codes "}") (after_blanks b)) c.4 ∙ text_after c.0 (codes "}") c.1 c.2 refl in
+    let ended : after_text (codes ";") (after_blanks bytes) ≡ Some s.1 =
+    ap (λ b. after_text (codes ";") (after_blanks b)) s.4 ∙ text_after s.0 (codes ";") s.1 s.2 refl in
+    let closed : after_text (codes "}") (after_blanks s.1) ≡ Some c.1 =
+    ap (λ b. after_text (codes "}") (after_blanks b)) c.4 ∙ text_after c.0 (codes "}") c.1 c.2 refl in
     let nothing : after_blanks c.1 ≡ [] = ap after_blanks (sym (append-nil c.1)) ∙ after_blanks-gap c.1 [] c.5 refl in
     rw (ended, closed, nothing) refl
 
@@ -94,13 +117,19 @@ reads bytes name signal form =
 
 -- the three parts, where a text is read
 
-spelled_text : (bytes text rest : List ℕ) → after_text text (after_blanks bytes) ≡ Some rest → (gap : List ℕ) × AreBlanks gap × (bytes ≡ gap ++ text ++ rest)
+spelled_text : (bytes text rest : List ℕ) → after_text text (after_blanks bytes) ≡ Some rest →
+    (gap : List ℕ) × AreBlanks gap × (bytes ≡ gap ++ text ++ rest)
 spelled_text bytes text rest e =
-    let split = after_blanks-only bytes in
-    (split.0, split.1, split.2 ∙ ap (λ r. split.0 ++ r) (after_text-only text (after_blanks bytes) rest e) ∙ sym (append_assoc split.0 text rest))
+    let split = after_blanks-only bytes in (
+      split.0,
+      split.1,
+      split.2 ∙ ap (λ r. split.0 ++ r) (after_text-only text (after_blanks bytes) rest e)
+          ∙ sym (append_assoc split.0 text rest),
+    )
 
 unit_spells : (bytes name rest : List ℕ) (tokens : List Token) → unit_part bytes ≡ Some (name, rest) →
-    IsThinName name × (SpellsAfter (mark (codes "{")) tokens rest → SpellsAfter (mark []) (unit_tokens name tokens) bytes)
+    IsThinName name ×
+    (SpellsAfter (mark (codes "{")) tokens rest → SpellsAfter (mark []) (unit_tokens name tokens) bytes)
 unfolding unit_part
 unit_spells bytes name rest tokens e =
     let opened = bind_some _ _ _ e in
@@ -134,8 +163,10 @@ unit_spells bytes name rest tokens e =
           ),
     )
 
-assertion_spells : (bytes first signal rest : List ℕ) (tokens : List Token) → assertion_part bytes ≡ Some (signal, rest) →
-    IsThinName signal × (SpellsAfter (word signal) tokens rest → SpellsAfter (mark first) (assertion_tokens signal tokens) bytes)
+assertion_spells : (bytes first signal rest : List ℕ) (tokens : List Token) →
+    assertion_part bytes ≡ Some (signal, rest) →
+    IsThinName signal ×
+    (SpellsAfter (word signal) tokens rest → SpellsAfter (mark first) (assertion_tokens signal tokens) bytes)
 unfolding assertion_part
 assertion_spells bytes first signal rest tokens e =
     let asserted = bind_some _ _ _ e in

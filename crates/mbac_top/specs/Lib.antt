@@ -1,6 +1,7 @@
-pub mod ThinForm
-pub mod Reading
-pub mod Answers
+pub mod Words
+pub mod Call
+pub mod Causes
 pub mod Compile
-pub mod Explained
-pub mod ThinChecker
+pub mod Messages
+pub mod ThinForm
+pub mod inner

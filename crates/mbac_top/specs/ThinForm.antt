@@ -41,7 +41,9 @@ text_of (mark text) = text
 -- the bytes after a token spell these tokens, with blanks between them and around
 abbrev pub SpellsAfter : Token → List Token → List ℕ → Type 0
 SpellsAfter last [] bytes = AreBlanks bytes
-SpellsAfter last (token ∷ tokens) bytes = (gap rest : List ℕ) × AreBlanks gap × AreApart last gap token × (bytes ≡ gap ++ text_of token ++ rest) × SpellsAfter token tokens rest
+SpellsAfter last (token ∷ tokens) bytes =
+    (gap rest : List ℕ) × AreBlanks gap × AreApart last gap token × (bytes ≡ gap ++ text_of token ++ rest) ×
+    SpellsAfter token tokens rest
 
 -- the text begins as after a mark
 abbrev pub Spells : List Token → List ℕ → Type 0

@@ -6,7 +6,7 @@ ghost use Rattle.verilog_text.specs.View.{module_of};
 ghost use Rattle.checker_meaning.specs.Headline.{ChecksUnit};
 ghost use Rattle.checker_meaning.specs.NegationChecker.{negation_checker};
 ghost use Rattle.mbac_top.specs.ThinForm.{IsThinName, thin_unit};
-ghost use Rattle.mbac_top.specs.ThinChecker.{thin_port, thin_module_name};
+ghost use Rattle.mbac_top.specs.inner.ThinChecker.{thin_port, thin_module_name};
 
 use checker_meaning::negation_checks_always;
 use psl_model::{Expr, Name, Signal, Subexpr, UnOp};
@@ -32,7 +32,8 @@ pub(crate) fn checker_text(alloc: Global, name: &[u8], signal: &[u8]) -> Result<
 
 /// The module whose output is the negation of its one port.
 fn negation_module(alloc: Global, name: &[u8], signal: &[u8]) -> Result<Module, AllocError>
-    ensures { IfOk result (λ checker. module_of checker ≡ negation_checker (thin_module_name name.now) (thin_port signal.now)) }
+    ensures { IfOk result
+        (λ checker. module_of checker ≡ negation_checker (thin_module_name name.now) (thin_port signal.now)) }
 {
     let name = module_name(alloc, name)?;
     let ports = one_port(alloc, signal)?;

@@ -1,10 +1,8 @@
 //! From the bytes of a unit to a checker text.
 
-ghost use Rattle.std.specs.Prelude.{◌≡◌, ◌≢◌, IfOk, IfErr};
-ghost use Rattle.psl_model.specs.Unit.{PslUnit};
-ghost use Rattle.mbac_top.specs.ThinForm.{StandsForUnit};
+ghost use Rattle.std.specs.Prelude.{IfOk, IfErr};
 ghost use Rattle.mbac_top.specs.Compile.{IsCompiledTo};
-ghost use Rattle.mbac_top.specs.Explained.{IsWhyUncompiled};
+ghost use Rattle.mbac_top.specs.inner.Ending.{IsWhyUncompiled};
 
 use crate::checker::checker_text;
 use crate::outcome::Cause;

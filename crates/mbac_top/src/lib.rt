@@ -12,5 +12,5 @@ mod thin_form;
 mod words;
 
 pub use outcome::{Cause, Outcome};
-pub use running::run;
+pub use running::{run, run_without_words};
 pub use words::compile_file;

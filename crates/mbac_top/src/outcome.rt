@@ -1,7 +1,7 @@
 //! What a run of the program ends with.
 
-/// Why a run ended as it did.
-#[derive(Clone, Copy, Debug, PartialEq, Eq)]
+/// Why a run ended as it did. Causes are passed by reference, so that one may hold a name.
+#[derive(Debug, Drop, PartialEq, Eq)]
 pub enum Cause {
     Done,
     /// The words are no command.
@@ -18,7 +18,7 @@ pub enum Cause {
 }
 
 /// The exit status of the program, and its cause.
-#[derive(Clone, Copy, Debug, PartialEq, Eq)]
+#[derive(Debug, Drop, PartialEq, Eq)]
 pub struct Outcome {
     pub status: u8,
     pub cause: Cause,

@@ -1,10 +1,12 @@
 //! The call that the program makes.
 
-ghost use Rattle.std.specs.Prelude.{◌≡◌, ◌≢◌, ◌↔◌, ◌⊎◌, ℕ, List, length, map, string_bytes, IfOk, IfErr};
-ghost use Rattle.mbac_io.specs.Device.{Rose, WhereTold, Keeps, Appends, AppendsPart};
-ghost use Rattle.mbac_top.specs.Answers.{IsCompile, status_of, message_of};
-ghost use Rattle.mbac_top.specs.Compile.{IsTooLong, IsUnbuilt, IsBuilt, IsCompiledTo};
-ghost use Rattle.mbac_top.specs.Explained.{IsShortAnd, IsWhyUnread, IsExplained, WritesText};
+ghost use Rattle.std.specs.Prelude.{◌≡◌, ◌≢◌, ◌≤◌, ◌↔◌, ◌⊎◌, ℕ, map, string_bytes, IfOk, IfErr};
+ghost use Rattle.mbac_io.specs.Device.{Rose, TakesSome, Appends, AppendsPart};
+ghost use Rattle.mbac_top.specs.Words.{Command, Says, IsCommand, Reads};
+ghost use Rattle.mbac_top.specs.Call.{slot_changes, sink_change, IsLeftAlone};
+ghost use Rattle.mbac_top.specs.Causes.{IsCause, MeetsBytes};
+ghost use Rattle.mbac_top.specs.Messages.{status_of, message_of};
+ghost use Rattle.mbac_top.specs.inner.Ending.{IsTextOf, IsWhyUnread, WritesText, ReadsOnly};
 
 use crate::compiling::compile;
 use crate::message::tell;
@@ -16,11 +18,11 @@ use std::alloc::Global;
 /// The most bytes of a unit's text.
 const UNIT_TEXT_LIMIT: usize = 1_048_576;
 
-/// Does what the words after the program's name say. `out` is where the text goes, and `notes` where
-/// a message goes that says why there is none.
+/// Does what the words after the program's name say: `compile` reads slot 0 and writes the text of its
+/// checkers to `out`. `notes` takes a message where there is no whole text.
 ///
-/// Want of memory may come in place of any answer but `Usage`, and never after the first write to
-/// `out`.
+/// The table of causes says when each answer comes. Want of memory may come in place of any answer but
+/// `Usage`, and never after the first write to `out`.
 pub fn run<I: Inputs, O: Sink, N: Sink>(
     alloc: Global,
     words: &[String],
@@ -30,60 +32,86 @@ pub fn run<I: Inputs, O: Sink, N: Sink>(
 ) -> Outcome
     ensures status { result.status ≡ status_of result.cause }
 
-    // When each answer comes. The words decide on `Usage` alone.
-    ensures usage { (result.cause ≡ Cause.Usage) ↔ (¬ IsCompile (map string_bytes words.now)) }
-    ensures command { result.cause ≢ Cause.Usage → IsCompile (map string_bytes words.now) }
-    ensures read_fault { (slot : ℕ) → result.cause ≡ Cause.ReadFault slot →
-        (slot ≡ 0) × Rose (I.faults inputs.old 0) (I.faults inputs.new 0) }
-    ensures write_fault { result.cause ≡ Cause.WriteFault → Rose (O.faults out.old) (O.faults out.new) }
-    ensures too_long_only { (slot : ℕ) → result.cause ≡ Cause.InputTooLong slot →
-        (slot ≡ 0) × WhereTold (I.left inputs.old 0) (I.left inputs.new 0) IsTooLong }
-    ensures too_long_where { IsCompile (map string_bytes words.now) →
-        WhereTold (I.left inputs.old 0) (I.left inputs.new 0) (λ bytes. IsTooLong bytes →
-        (result.cause ≡ Cause.InputTooLong 0) ⊎ (result.cause ≡ Cause.ReadFault 0) ⊎ (result.cause ≡ Cause.OutOfMemory)) }
-    ensures unbuilt_only { result.cause ≡ Cause.Unbuilt →
-        WhereTold (I.left inputs.old 0) (I.left inputs.new 0) IsUnbuilt }
-    ensures unbuilt_where { IsCompile (map string_bytes words.now) →
-        WhereTold (I.left inputs.old 0) (I.left inputs.new 0) (λ bytes. IsUnbuilt bytes →
-        (result.cause ≡ Cause.Unbuilt) ⊎ (result.cause ≡ Cause.ReadFault 0) ⊎ (result.cause ≡ Cause.OutOfMemory)) }
+    // When each answer comes: the words decide on `Usage` alone, and all else is the table of causes.
+    ensures usage { (result.cause ≡ Cause.Usage) ↔ (¬ IsCommand (map string_bytes words.now)) }
+    ensures command { result.cause ≢ Cause.Usage → IsCommand (map string_bytes words.now) }
+    ensures only { IsCause (record {
+      words = map string_bytes words.now;
+      slots = slot_changes I.left I.faults inputs.old inputs.new;
+      out = sink_change O.taken O.faults out.old out.new;
+    }) result.cause }
+    ensures due { MeetsBytes (record {
+      words = map string_bytes words.now;
+      slots = slot_changes I.left I.faults inputs.old inputs.new;
+      out = sink_change O.taken O.faults out.old out.new;
+    }) result.cause }
 
-    // A unit is compiled, unless memory or a device fails.
-    ensures complete { IsCompile (map string_bytes words.now) →
-        WhereTold (I.left inputs.old 0) (I.left inputs.new 0) (λ bytes. IsBuilt bytes →
-        (result.cause ≡ Cause.Done) ⊎ (result.cause ≡ Cause.OutOfMemory)
-        ⊎ (result.cause ≡ Cause.ReadFault 0) ⊎ (result.cause ≡ Cause.WriteFault)) }
-
-    // What is written: one checker for each assertion of the unit, or a part of that text, or nothing.
-    ensures compiled { result.cause ≡ Cause.Done →
-        WhereTold (I.left inputs.old 0) (I.left inputs.new 0) (λ bytes. (text : List ℕ) ×
-        IsCompiledTo bytes text × Appends (O.taken out.old) (O.taken out.new) text) }
-    ensures part { result.cause ≡ Cause.WriteFault →
-        WhereTold (I.left inputs.old 0) (I.left inputs.new 0) (λ bytes. (text : List ℕ) ×
-        IsCompiledTo bytes text × AppendsPart (O.taken out.old) (O.taken out.new) text) }
-    ensures nothing { result.cause ≢ Cause.Done → result.cause ≢ Cause.WriteFault → Keeps (O.taken out.old) (O.taken out.new) }
-
-    // What people are told.
+    // What it leaves alone. Slots lose bytes from their front, and only those that the command reads.
+    ensures usage_reads_nothing { result.cause ≡ Cause.Usage → inputs.new ≡ inputs.old }
+    ensures front_taken { (slot : ℕ) → TakesSome (I.left inputs.old slot) (I.left inputs.new slot) }
+    ensures unread { (command : Command) (slot : ℕ) → Says (map string_bytes words.now) command →
+        ¬ Reads command slot → IsLeftAlone (slot_changes I.left I.faults inputs.old inputs.new slot) }
+    ensures unwritten { result.cause ≢ Cause.Done → result.cause ≢ Cause.WriteFault → out.new ≡ out.old }
     ensures silent { result.cause ≡ Cause.Done → notes.new ≡ notes.old }
+
+    // What people are told: the message, or a part of it where `notes` failed.
     ensures told { result.cause ≢ Cause.Done →
         Appends (N.taken notes.old) (N.taken notes.new) (message_of result.cause)
-        ⊎ (AppendsPart (N.taken notes.old) (N.taken notes.new) (message_of result.cause) × Rose (N.faults notes.old) (N.faults notes.new)) }
+        ⊎ (AppendsPart (N.taken notes.old) (N.taken notes.new) (message_of result.cause)
+        × Rose (N.faults notes.old) (N.faults notes.new)) }
+
+    // Counts of faults.
+    ensures inputs_never_fall { (slot : ℕ) → I.faults inputs.old slot ≤ I.faults inputs.new slot }
+    ensures out_never_falls { O.faults out.old ≤ O.faults out.new }
+    ensures notes_never_fall { N.faults notes.old ≤ N.faults notes.new }
 {
     let cause = answer(alloc, words, inputs, out);
+    end(cause, notes)
+}
+
+/// What a program ends with that has no memory for its words.
+pub fn run_without_words<N: Sink>(notes: &mut N) -> Outcome
+    ensures cause { result.cause ≡ Cause.OutOfMemory }
+    ensures status { result.status ≡ status_of Cause.OutOfMemory }
+    ensures told { Appends (N.taken notes.old) (N.taken notes.new) (message_of Cause.OutOfMemory)
+        ⊎ (AppendsPart (N.taken notes.old) (N.taken notes.new) (message_of Cause.OutOfMemory)
+        × Rose (N.faults notes.old) (N.faults notes.new)) }
+    ensures never_falls { N.faults notes.old ≤ N.faults notes.new }
+{
+    end(Cause::OutOfMemory, notes)
+}
+
+/// The outcome of a cause, which is told where it isn't `Done`.
+fn end<N: Sink>(cause: Cause, notes: &mut N) -> Outcome
+    ensures same_cause { result.cause ≡ cause }
+    ensures status { result.status ≡ status_of cause }
+    ensures silent { cause ≡ Cause.Done → notes.new ≡ notes.old }
+    ensures told { cause ≢ Cause.Done →
+        Appends (N.taken notes.old) (N.taken notes.new) (message_of cause)
+        ⊎ (AppendsPart (N.taken notes.old) (N.taken notes.new) (message_of cause)
+        × Rose (N.faults notes.old) (N.faults notes.new)) }
+    ensures never_falls { N.faults notes.old ≤ N.faults notes.new }
+{
     if cause != Cause::Done {
-        tell(notes, cause);
+        tell(notes, &cause);
     }
     Outcome {
-        status: status(cause),
+        status: status(&cause),
         cause,
     }
 }
 
 /// The answer of the words, with its text written.
 fn answer<I: Inputs, O: Sink>(alloc: Global, words: &[String], inputs: &mut I, out: &mut O) -> Cause
-    ensures { IsExplained (IsCompile (map string_bytes words.now))
-        (record { before = I.left inputs.old 0; after = I.left inputs.new 0; faults_before = I.faults inputs.old 0; faults_after = I.faults inputs.new 0 })
-        (record { before = O.taken out.old; after = O.taken out.new; faults_before = O.faults out.old; faults_after = O.faults out.new })
-        result }
+    ensures cause { IsCause (record {
+      words = map string_bytes words.now;
+      slots = slot_changes I.left I.faults inputs.old inputs.new;
+      out = sink_change O.taken O.faults out.old out.new;
+    }) result }
+    ensures usage_reads_nothing { result ≡ Cause.Usage → inputs.new ≡ inputs.old }
+    ensures read { ReadsOnly (slot_changes I.left I.faults inputs.old inputs.new) 0 }
+    ensures unwritten { result ≢ Cause.Done → result ≢ Cause.WriteFault → out.new ≡ out.old }
+    ensures out_never_falls { O.faults out.old ≤ O.faults out.new }
 {
     if compile_file(words).is_none() {
         return Cause::Usage;
@@ -96,9 +124,10 @@ fn answer<I: Inputs, O: Sink>(alloc: Global, words: &[String], inputs: &mut I, o
 
 /// The checker text of the unit in slot 0, or why there is none.
 fn compile_slot<I: Inputs>(alloc: Global, inputs: &mut I) -> Result<Vec<u8>, Cause>
-    ensures text { IfOk result (λ text. WhereTold (I.left inputs.old 0) (I.left inputs.new 0) (IsShortAnd (λ bytes. IsCompiledTo bytes text.items))) }
-    ensures cause { IfErr result (IsWhyUnread
-        (record { before = I.left inputs.old 0; after = I.left inputs.new 0; faults_before = I.faults inputs.old 0; faults_after = I.faults inputs.new 0 })) }
+    ensures text { IfOk result (λ text.
+        IsTextOf (slot_changes I.left I.faults inputs.old inputs.new 0) text.items) }
+    ensures cause { IfErr result (IsWhyUnread (slot_changes I.left I.faults inputs.old inputs.new 0)) }
+    ensures read { ReadsOnly (slot_changes I.left I.faults inputs.old inputs.new) 0 }
 {
     match read_all(alloc, inputs, 0, UNIT_TEXT_LIMIT) {
         Ok(bytes) => compile(alloc, &bytes),
@@ -109,9 +138,8 @@ fn compile_slot<I: Inputs>(alloc: Global, inputs: &mut I) -> Result<Vec<u8>, Cau
 }
 
 fn write_text<O: Sink>(out: &mut O, text: &[u8]) -> Cause
-    ensures { WritesText
-        (record { before = O.taken out.old; after = O.taken out.new; faults_before = O.faults out.old; faults_after = O.faults out.new })
-        text.now result }
+    ensures written { WritesText (sink_change O.taken O.faults out.old out.new) text.now result }
+    ensures never_falls { O.faults out.old ≤ O.faults out.new }
 {
     match write_all(out, text) {
         Ok(()) => Cause::Done,
@@ -119,8 +147,8 @@ fn write_text<O: Sink>(out: &mut O, text: &[u8]) -> Cause
     }
 }
 
-fn status(cause: Cause) -> u8
-    ensures { result ≡ status_of cause }
+fn status(cause: &Cause) -> u8
+    ensures { result ≡ status_of cause.now }
 {
     match cause {
         Cause::Done => 0,

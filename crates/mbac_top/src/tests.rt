@@ -1,4 +1,4 @@
-use crate::{Cause, Outcome, run};
+use crate::{Cause, Outcome, run, run_without_words};
 use mbac_io::{MemoryInputs, MemorySink};
 use std::alloc::{AllocError, Global};
 use std::test::Fail;
@@ -51,28 +51,12 @@ fn ends_with_each_cause(rt: HostRuntime) -> Result<(), Fail> {
     let never: &[u64] = &[];
     let first: &[u64] = &[0];
     let second: &[u64] = &[1];
+    let no_file: &[&str] = &["compile"];
+    let empty: &[&str] = &["compile", ""];
     for (words, file, reads, writes, status, cause, text, note) in [
         (COMMAND, UNIT, never, never, 0, Cause::Done, CHECKER, ""),
-        (
-            &["compile"],
-            UNIT,
-            never,
-            never,
-            2,
-            Cause::Usage,
-            b"",
-            "mbac: usage\n",
-        ),
-        (
-            &["compile", ""],
-            UNIT,
-            never,
-            never,
-            2,
-            Cause::Usage,
-            b"",
-            "mbac: usage\n",
-        ),
+        (no_file, UNIT, never, never, 2, Cause::Usage, b"", "usage"),
+        (empty, UNIT, never, never, 2, Cause::Usage, b"", "usage"),
         (
             COMMAND,
             UNIT,
@@ -81,7 +65,7 @@ fn ends_with_each_cause(rt: HostRuntime) -> Result<(), Fail> {
             3,
             Cause::ReadFault { slot: 0 },
             b"",
-            "mbac: read fault in file 0\n",
+            "read fault in file 0",
         ),
         (
             COMMAND,
@@ -91,7 +75,7 @@ fn ends_with_each_cause(rt: HostRuntime) -> Result<(), Fail> {
             4,
             Cause::WriteFault,
             b"module mba",
-            "mbac: write fault\n",
+            "write fault",
         ),
         (
             COMMAND,
@@ -101,7 +85,7 @@ fn ends_with_each_cause(rt: HostRuntime) -> Result<(), Fail> {
             6,
             Cause::InputTooLong { slot: 0 },
             b"",
-            "mbac: InputTooLong 0\n",
+            "InputTooLong 0",
         ),
         (
             COMMAND,
@@ -111,28 +95,41 @@ fn ends_with_each_cause(rt: HostRuntime) -> Result<(), Fail> {
             6,
             Cause::Unbuilt,
             b"",
-            "mbac: Unbuilt\n",
+            "Unbuilt",
         ),
     ] {
         let (outcome, out, notes) = ran(alloc, words, file, reads, writes, never)?;
         assert_eq!(rt; outcome, Outcome { status, cause });
         assert_eq!(rt; out.taken(), text, "after {note}");
-        assert_eq!(rt; notes.taken(), note.as_bytes());
+        let line = match status {
+            0 => String::new(alloc),
+            _ => format!(in alloc; "mbac: {note}\n")?,
+        };
+        assert_eq!(rt; notes.taken(), line.as_bytes());
     }
     Ok(())
 }
 
 #[test]
 fn ends_the_same_where_notes_fail(rt: HostRuntime) -> Result<(), Fail> {
-    let (outcome, out, notes) = ran(rt.alloc(), &[], UNIT, &[], &[], &[0])?;
-    assert_eq!(rt;
-        outcome,
-        Outcome {
-            status: 2,
-            cause: Cause::Usage
-        }
-    );
-    assert!(rt; out.taken().is_empty());
-    assert!(rt; notes.taken().is_empty());
+    let alloc = rt.alloc();
+    for (failing, part) in [(0, b"".as_slice()), (1, b"mbac: "), (2, b"mbac: usage")] {
+        let (outcome, out, notes) = ran(alloc, &[], UNIT, &[], &[], &[failing])?;
+        let cause = Cause::Usage;
+        assert_eq!(rt; outcome, Outcome { status: 2, cause });
+        assert!(rt; out.taken().is_empty());
+        assert_eq!(rt; notes.taken(), part, "a failure at call {failing}");
+    }
+    Ok(())
+}
+
+#[test]
+fn tells_that_there_is_no_memory_for_words(rt: HostRuntime) -> Result<(), Fail> {
+    let alloc = rt.alloc();
+    let mut notes = MemorySink::new(alloc, 100, 100, Vec::new(alloc))?;
+    let outcome = run_without_words(&mut notes);
+    let cause = Cause::OutOfMemory;
+    assert_eq!(rt; outcome, Outcome { status: 5, cause });
+    assert_eq!(rt; notes.taken(), b"mbac: out of memory\n".as_slice());
     Ok(())
 }

@@ -1,10 +1,12 @@
 //! Reading the units that are compiled today: `vunit NAME { assert always NAME; }`.
 
-ghost use Rattle.std.specs.Prelude.{◌≡◌, ◌≤◌, ◌↔◌, ℕ, List, length, IsTrue, IfSome, IfNone, IsSomeAnd, option_copied, option_map, is_some};
+ghost use Rattle.std.specs.Prelude.{◌≡◌, ◌≤◌, ◌↔◌, ℕ, List, length, IsTrue, IfSome, IfNone, IsSomeAnd};
+ghost use Rattle.std.specs.Prelude.{option_copied, option_map, is_some};
 ghost use Rattle.std.specs.List.{prefix_len};
 ghost use Rattle.psl_model.specs.Names.{between};
 ghost use Rattle.mbac_top.specs.ThinForm.{is_blank, is_digit, IsThinForm};
-ghost use Rattle.mbac_top.specs.Reading.{after_blanks, after_text, after_gap, name_and_rest, unit_part, assertion_part, end_part, names_in};
+ghost use Rattle.mbac_top.specs.inner.Reading.{after_blanks, after_text, after_gap, name_and_rest, unit_part};
+ghost use Rattle.mbac_top.specs.inner.Reading.{assertion_part, end_part, names_in};
 
 /// The names of a unit in the thin form.
 #[derive(Clone, Copy, Debug)]
@@ -55,21 +57,21 @@ fn count_digits(bytes: &[u8]) -> usize
     count
 }
 
-#[tactic(auto, unfolding(crate::specs::Reading::after_blanks))]
+#[tactic(auto, unfolding(crate::specs::inner::Reading::after_blanks))]
 fn skip_blanks(bytes: &[u8]) -> &[u8]
     ensures { result.now ≡ after_blanks bytes.now }
 {
     &bytes[count_blanks(bytes)..]
 }
 
-#[tactic(auto, unfolding(crate::specs::Reading::after_text))]
+#[tactic(auto, unfolding(crate::specs::inner::Reading::after_text))]
 fn strip_text<'a>(bytes: &'a [u8], text: &[u8]) -> Option<&'a [u8]>
     ensures { option_copied result ≡ after_text text.now bytes.now }
 {
     bytes.strip_prefix(text)
 }
 
-#[tactic(auto, unfolding(crate::specs::Reading::after_gap, crate::specs::Reading::after_blanks))]
+#[tactic(auto, unfolding(crate::specs::inner::Reading::after_gap, crate::specs::inner::Reading::after_blanks))]
 fn skip_gap(bytes: &[u8]) -> Option<&[u8]>
     ensures { option_copied result ≡ after_gap bytes.now }
 {
@@ -80,7 +82,7 @@ fn skip_gap(bytes: &[u8]) -> Option<&[u8]>
     Some(&bytes[blanks..])
 }
 
-#[tactic(auto, unfolding(crate::specs::Reading::name_and_rest))]
+#[tactic(auto, unfolding(crate::specs::inner::Reading::name_and_rest))]
 fn take_name(bytes: &[u8]) -> Option<(&[u8], &[u8])>
     ensures { option_map (λ parts. (parts.0.now, parts.1.now)) result ≡ name_and_rest bytes.now }
 {
@@ -95,7 +97,7 @@ fn take_name(bytes: &[u8]) -> Option<(&[u8], &[u8])>
     Some(bytes.split_at(digits + 1))
 }
 
-#[tactic(auto, unfolding(crate::specs::Reading::unit_part))]
+#[tactic(auto, unfolding(crate::specs::inner::Reading::unit_part))]
 fn read_unit(bytes: &[u8]) -> Option<(&[u8], &[u8])>
     ensures { option_map (λ parts. (parts.0.now, parts.1.now)) result ≡ unit_part bytes.now }
 {
@@ -106,7 +108,7 @@ fn read_unit(bytes: &[u8]) -> Option<(&[u8], &[u8])>
     Some((name, rest))
 }
 
-#[tactic(auto, unfolding(crate::specs::Reading::assertion_part))]
+#[tactic(auto, unfolding(crate::specs::inner::Reading::assertion_part))]
 fn read_assertion(bytes: &[u8]) -> Option<(&[u8], &[u8])>
     ensures { option_map (λ parts. (parts.0.now, parts.1.now)) result ≡ assertion_part bytes.now }
 {
@@ -117,7 +119,7 @@ fn read_assertion(bytes: &[u8]) -> Option<(&[u8], &[u8])>
     take_name(next)
 }
 
-#[tactic(auto, unfolding(crate::specs::Reading::end_part))]
+#[tactic(auto, unfolding(crate::specs::inner::Reading::end_part))]
 fn is_end(bytes: &[u8]) -> bool
     ensures { result ≡ is_some (end_part bytes.now) }
 {
@@ -130,7 +132,7 @@ fn is_end(bytes: &[u8]) -> bool
     skip_blanks(closed).is_empty()
 }
 
-#[tactic(auto, unfolding(crate::specs::Reading::names_in))]
+#[tactic(auto, unfolding(crate::specs::inner::Reading::names_in))]
 fn read_names(bytes: &[u8]) -> Option<ThinForm<'_>>
     ensures { option_map (λ form. (form.name.now, form.signal.now)) result ≡ names_in bytes.now }
 {

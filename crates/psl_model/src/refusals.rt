@@ -1,8 +1,8 @@
 //! Why a text is refused.
 
 /// Offsets count bytes from 0. Directives and sequences are numbered from 1 in reading order, with
-/// each named sequence and property put in place.
-#[derive(Clone, Copy, Debug, PartialEq, Eq)]
+/// each named sequence and property put in place. A refusal isn't `Copy`, so that one may hold a name.
+#[derive(Debug, Drop, PartialEq, Eq)]
 pub enum Refusal {
     /// A byte that begins no token.
     BadByte {

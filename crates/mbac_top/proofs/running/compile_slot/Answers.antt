@@ -1,18 +1,14 @@
-use Rattle.std.proofs.Common.{◌≤◌, ℕ, List, length, ap, arith, subst}
-use Rattle.std.specs.Prelude.{IfErr}
-use Rattle.mbac_top.specs.Explained.{Change, IsWhyUncompiled}
-use Rattle.mbac_top.proofs.Explaining.{why_unread-error}
+use Rattle.std.proofs.Common.{refl, ap}
+use Rattle.std.specs.Prelude.{Err}
+use Rattle.mbac_top.proofs.Ending.{may_have-some, may_have-long}
 use Rattle.mbac_top.proofs.running.compile_slot.Goals as goal
 
-pub returns-in-Ok-clause-cause : goal.returns-in-Ok-clause-cause
-returns-in-Ok-clause-cause g c =
-    let input : Change = record {
-      before = g.I.Inputs.left c.args.inputs.now 0;
-      after = g.I.Inputs.left c.read_all.new.inputs 0;
-      faults_before = g.I.Inputs.faults c.args.inputs.now 0;
-      faults_after = g.I.Inputs.faults c.read_all.new.inputs 0;
-    } in
-    let why = subst (λ (bytes : List ℕ). IfErr c.compile.result (IsWhyUncompiled bytes)) c.deref.ensures.value c.compile.ensures.cause in
-    let short : length c.in-Ok.bytes.items ≤ 1048576 =
-    omega (arith, c.in-Ok.ensures.within, c.deref.ensures.len, ap length c.deref.ensures.value) in
-    why_unread-error c.compile.result input c.in-Ok.bytes.items c.in-Ok.ensures.whole short why
+pub returns-in-Err-Failed-clause-cause : goal.returns-in-Err-Failed-clause-cause
+returns-in-Err-Failed-clause-cause g c =
+    let is = c.in-Err-Failed in
+    (refl, may_have-some _ _ is.ensures.front_taken, is.ensures.failed_rose (ap (λ e. Err e) is.field-0-is))
+
+pub returns-in-Err-TooLong-clause-cause : goal.returns-in-Err-TooLong-clause-cause
+returns-in-Err-TooLong-clause-cause g c =
+    let is = c.in-Err-TooLong in
+    (refl, may_have-long _ _ _ (is.ensures.too_long_only (ap (λ e. Err e) is.field-0-is)))

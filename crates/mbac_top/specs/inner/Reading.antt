@@ -1,5 +1,6 @@
 -- What the reader of the thin form gives of a text, step by step. What it is worth is `ThinForm`.
-use Rattle.std.specs.Prelude.{ℕ, nat_le, nat_eq, ◌==◌, List, [], ◌∷◌, length, take, drop, codes, Option, Some, None, if◌then◌else◌}
+use Rattle.std.specs.Prelude.{ℕ, nat_le, nat_eq, ◌==◌, List, [], ◌∷◌, length, take, drop, codes, Option, Some}
+use Rattle.std.specs.Prelude.{None, if◌then◌else◌}
 use Rattle.std.specs.List.{prefix_len}
 use Rattle.std.specs.Cmp.Lexicographic.{pointwise}
 use Rattle.psl_model.specs.Names.{between}
@@ -11,7 +12,8 @@ after_blanks bytes = drop (prefix_len is_blank bytes) bytes
 
 -- what follows a text, where it stands at the front
 unfoldable pub after_text : (text bytes : List ℕ) → Option (List ℕ)
-after_text text bytes = if pointwise nat_eq (take (length text) bytes) text then Some (drop (length text) bytes) else None
+after_text text bytes =
+    if pointwise nat_eq (take (length text) bytes) text then Some (drop (length text) bytes) else None
 
 -- what follows at least one blank
 unfoldable pub after_gap : List ℕ → Option (List ℕ)
@@ -22,7 +24,8 @@ unfoldable pub name_and_rest : List ℕ → Option (List ℕ × List ℕ)
 name_and_rest [] = None
 name_and_rest (byte ∷ bytes) =
     let digits = prefix_len is_digit bytes in
-    if between 97 122 byte then (if nat_le digits 254 then Some (byte ∷ take digits bytes, drop digits bytes) else None) else None
+    if between 97 122 byte then
+    (if nat_le digits 254 then Some (byte ∷ take digits bytes, drop digits bytes) else None) else None
 
 infixl 10 ◌>>=◌
 abbrev pub ◌>>=◌ : {A B : Type 0} → Option A → (A → Option B) → Option B
