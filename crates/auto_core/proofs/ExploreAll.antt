@@ -7,9 +7,9 @@ use Rattle.std.proofs.lemmas.Option.{slice_get_within}
 use Rattle.auto_core.specs.declared.tables.Edge.{Edge}
 use Rattle.auto_core.specs.declared.tables.Row.{Row}
 use Rattle.auto_core.specs.Machine.{Machine}
-use Rattle.auto_core.specs.Rows.{HasEdgesOf}
-use Rattle.auto_core.specs.Graph.{steps_from}
-use Rattle.auto_core.specs.Exploring.{IsExplored, AddsEdgesOf, AreFiled}
+use Rattle.auto_core.specs.inner.Rows.{HasEdgesOf}
+use Rattle.auto_core.specs.inner.Order.{steps_from}
+use Rattle.auto_core.specs.inner.Exploring.{IsExplored, AddsEdgesOf, AreFiled}
 use Rattle.auto_core.proofs.Once.{append-nil, told}
 use Rattle.auto_core.proofs.Steps.{map-append, take-next}
 

@@ -10,8 +10,9 @@ use Rattle.indexmap.specs.IndexSet.{insert_key}
 use Rattle.auto_core.specs.declared.labels.Literal.{Literal}
 use Rattle.auto_core.specs.declared.tables.Edge.{Edge}
 use Rattle.auto_core.specs.Machine.{Machine}
-use Rattle.auto_core.specs.Graph.{Step, Reached, same_edge, steps_from, steps_of}
-use Rattle.auto_core.specs.Exploring.{IsExplored, TakesEdge, AddsEdgesOf}
+use Rattle.auto_core.specs.Graph.{Reached}
+use Rattle.auto_core.specs.inner.Order.{Step, same_edge, steps_from, steps_of}
+use Rattle.auto_core.specs.inner.Exploring.{IsExplored, TakesEdge, AddsEdgesOf}
 use Rattle.auto_core.proofs.SameLabel.{same_edge-Decides}
 use Rattle.auto_core.proofs.Members.{Among}
 use Rattle.auto_core.proofs.Once.{append-nil, Among-slice_get, Among-left, insert_key-there, insert_key-new, among_or_not}

@@ -1,3 +1,4 @@
+pub mod EdgeMembers
 pub mod ExploreAll
 pub mod ExploreState
 pub mod LabelLemmas
@@ -5,8 +6,11 @@ pub mod LabelOrder
 pub mod Marking
 pub mod Members
 pub mod Once
+pub mod Parts
 pub mod PutSearch
 pub mod Reaching
 pub mod RowLemmas
 pub mod SameLabel
 pub mod Steps
+pub mod Union
+pub mod Words

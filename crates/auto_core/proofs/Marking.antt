@@ -7,7 +7,7 @@ use Rattle.auto_core.specs.declared.labels.Literal.{Literal}
 use Rattle.auto_core.specs.declared.tables.Edge.{Edge}
 use Rattle.auto_core.specs.Machine.{AcceptsFrom}
 use Rattle.auto_core.specs.Graph.{Graph, graph_machine, edges_from, IsAlive}
-use Rattle.auto_core.specs.Searching.{IsMarked, HasSources, Spreads, IsSearch}
+use Rattle.auto_core.specs.inner.Searching.{IsMarked, HasSources, Spreads, IsSearch}
 use Rattle.auto_core.proofs.Members.{Among, Contains-from_Among, Among-from_Contains}
 use Rattle.auto_core.proofs.Once.{told, true-false, Among-append, Among-left, Among-right, Among-filter, Among-filter_back}
 use Rattle.auto_core.proofs.Steps.{Among-map, map-Among, All-among, All-from_among}

@@ -4,7 +4,7 @@ use Rattle.std.specs.Bool.{Decides}
 use Rattle.std.specs.Cmp.{IsEquivalence}
 use Rattle.std.specs.List.{list_any, position_or_len}
 use Rattle.indexmap.specs.IndexSet.{insert_key}
-use Rattle.auto_core.specs.Graph.{once_each}
+use Rattle.auto_core.specs.inner.Order.{once_each}
 use Rattle.auto_core.proofs.Members.{Among}
 
 -- a test with its answer

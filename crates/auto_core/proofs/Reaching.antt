@@ -11,9 +11,10 @@ use Rattle.auto_core.specs.declared.labels.Literal.{Literal}
 use Rattle.auto_core.specs.declared.tables.Edge.{Edge}
 use Rattle.auto_core.specs.declared.tables.Row.{Row}
 use Rattle.auto_core.specs.Machine.{Machine, Letter, AcceptsFrom, Accepts}
-use Rattle.auto_core.specs.Rows.{IsFiled}
-use Rattle.auto_core.specs.Graph.{Step, Graph, Reached, at_start, by_edge, ReachesMoreThan, IsGraphOf, same_edge, numbered, steps_from, steps_of, edges_from, graph_machine}
-use Rattle.auto_core.specs.Exploring.{IsExplored, AreFiled}
+use Rattle.auto_core.specs.inner.Rows.{IsFiled}
+use Rattle.auto_core.specs.Graph.{Graph, Reached, at_start, by_edge, ReachesMoreThan, edges_from, graph_machine}
+use Rattle.auto_core.specs.inner.Order.{Step, IsGraphOf, same_edge, numbered, steps_from, steps_of}
+use Rattle.auto_core.specs.inner.Exploring.{IsExplored, AreFiled}
 use Rattle.auto_core.proofs.Members.{Among, Contains-from_Among, Among-from_Contains}
 use Rattle.auto_core.proofs.SameLabel.{same_edge-Decides}
 use Rattle.auto_core.proofs.Once.{Apart, AllPairs-from_Apart, Apart-from_AllPairs, Among-append, Among-left, Among-right, slice_get-Among, Among-filter, Among-filter_back, Among-once, once-Among, position-Among}
@@ -148,64 +149,3 @@ module _ {S : Type 0} (eq : S → S → Bool) (decides : (x y : S) → Decides (
       accepting = accepting ∙ filed.accepting ∙ ap (map m.accepts) (take_all (length rows) names (let e = all in omega arith));
       edges = same ∙ seen.joined;
     }
-
-  -- ---- the same words
-
-  module _ (names : List S) (g : Graph) (same : IsGraphOf eq own m names g) where
-    named_target : (step : Step S) → Among (steps_from m 0 names) step → Among names step.to
-    named_target step k = subst (λ (s : List S). Among s step.to) (sym same.named) (Among-once eq decides (m.start ∷ map (λ e. e.to) (steps_from m 0 names)) step.to (inr (Among-map (λ (e : Step S). e.to) (steps_from m 0 names) step k)))
-
-    accepts-at : (ss : List S) (n : ℕ) (s : S) → slice_get ss n ≡ Some s → get_or (map m.accepts ss) n false ≡ m.accepts s
-    accepts-at [] n s h = absurd (let e = h in cc)
-    accepts-at (t ∷ ss) zero s h = ap m.accepts (same_Some t s h)
-    accepts-at (t ∷ ss) (suc n) s h = accepts-at ss n s h
-
-    -- an edge of the table is one of the automaton
-    edge_back : (n : ℕ) (s : S) (label : List Literal) (k : ℕ) → slice_get names n ≡ Some s → Among (edges_from n g.edges) (label, k)
-        → (next : S) × Among (m.edges s) (label, next) × (slice_get names k ≡ Some next)
-    edge_back n s label k at h =
-        let (edge, filtered, parts) = map-Among (λ (e : Edge). (e.label, e.to)) (filter (λ e. eqb e.from n) g.edges) (label, k) h in
-        let kept = Among-filter (λ (e : Edge). eqb e.from n) g.edges edge filtered in
-        let (step, there, numbers) = map-Among (numbered eq names) (steps_from m 0 names) edge (once-Among same_edge same_edge-Decides (map (numbered eq names) (steps_from m 0 names)) edge (subst (λ (s : List Edge). Among s edge) same.edges kept.0)) in
-        let (i, t, named, from, out) = steps-from m 0 names step there in
-        let leaves : step.from ≡ n = ap (λ (e : Edge). e.from) numbers ∙ (Decides-eqb edge.from n).0 kept.1 in
-        let place : i ≡ n = omega (arith, from) in
-        let state : t ≡ s = same_Some t s (sym named ∙ ap (slice_get names) place ∙ at) in
-        let labelled : step.label ≡ label = ap (λ (e : Edge). e.label) numbers ∙ ap (λ (p : List Literal × ℕ). p.0) parts in
-        let led : position_or_len (eq step.to) names ≡ k = ap (λ (e : Edge). e.to) numbers ∙ ap (λ (p : List Literal × ℕ). p.1) parts in (
-          step.to,
-          subst (λ (l : List Literal). Among (m.edges s) (l, step.to)) labelled (subst (λ (z : S). Among (m.edges z) (step.label, step.to)) state out),
-          ap (slice_get names) (sym led) ∙ (position-Among eq decides names step.to (named_target step there)).1,
-        )
-
-    -- an edge of the automaton stands in the table
-    edge_on : (n : ℕ) (s : S) (label : List Literal) (next : S) → slice_get names n ≡ Some s → Among (m.edges s) (label, next)
-        → (k : ℕ) × Among (edges_from n g.edges) (label, k) × (slice_get names k ≡ Some next)
-    edge_on n s label next at h =
-        let step : Step S = record { from = 0 + n; label = label; to = next } in
-        let there : Among (steps_from m 0 names) (record { from = 0 + n; label = label; to = next }) = steps-there m 0 names n s label next at h in
-        let edge : Edge = record { from = 0 + n; label = label; to = position_or_len (eq next) names } in
-        let stands : Among g.edges (record { from = 0 + n; label = label; to = position_or_len (eq next) names }) = subst (λ (t : List Edge). Among t (record { from = 0 + n; label = label; to = position_or_len (eq next) names })) (sym same.edges)
-        (Among-once same_edge same_edge-Decides (map (numbered eq names) (steps_from m 0 names)) (record { from = 0 + n; label = label; to = position_or_len (eq next) names }) (Among-map (numbered eq names) (steps_from m 0 names) step there)) in
-        let from : 0 + n ≡ n = omega arith in (
-          position_or_len (eq next) names,
-          Among-map (λ (e : Edge). (e.label, e.to)) (filter (λ e. eqb e.from n) g.edges) edge (Among-filter_back (λ (e : Edge). eqb e.from n) g.edges edge stands ((Decides-eqb (0 + n) n).1 from)),
-          (position-Among eq decides names next (named_target step there)).1,
-        )
-
-    pub words_back : (w : List Letter) (n : ℕ) (s : S) → slice_get names n ≡ Some s → AcceptsFrom (graph_machine g) n w → AcceptsFrom m s w
-    words_back [] n s at h = sym (accepts-at names n s at) ∙ ap (λ (b : List Bool). get_or b n false) (sym same.accepting) ∙ h
-    words_back (a ∷ w) n s at (label, k, edge, passes, rest) =
-        let (next, there, named) = edge_back n s label k at (Among-from_Contains (edges_from n g.edges) (label, k) edge) in
-        (label, next, Contains-from_Among (m.edges s) (label, next) there, passes, words_back w k next named rest)
-
-    pub words_on : (w : List Letter) (n : ℕ) (s : S) → slice_get names n ≡ Some s → AcceptsFrom m s w → AcceptsFrom (graph_machine g) n w
-    words_on [] n s at h = ap (λ (b : List Bool). get_or b n false) same.accepting ∙ accepts-at names n s at ∙ h
-    words_on (a ∷ w) n s at (label, next, edge, passes, rest) =
-        let (k, there, named) = edge_on n s label next at (Among-from_Contains (m.edges s) (label, next) edge) in
-        (label, k, Contains-from_Among (edges_from n g.edges) (label, k) there, passes, words_on w k next named rest)
-
-    pub same_words : (w : List Letter) → Accepts (graph_machine g) w ↔ Accepts m w
-    same_words w =
-        let first : slice_get names 0 ≡ Some m.start = ap (λ (s : List S). slice_get s 0) same.named in
-        (words_back w 0 m.start first, words_on w 0 m.start first)

@@ -6,7 +6,7 @@ use Rattle.std.specs.Option.{option_map}
 use Rattle.auto_core.specs.declared.tables.Edge.{Edge}
 use Rattle.auto_core.specs.declared.tables.Row.{Row}
 use Rattle.auto_core.specs.Graph.{Graph, edges_from}
-use Rattle.auto_core.specs.Rows.{HasEdgesOf, IsFiled}
+use Rattle.auto_core.specs.inner.Rows.{HasEdgesOf, IsFiled}
 
 pub length-map : {X Y : Type 0} (f : X → Y) (xs : List X) → length (map f xs) ≡ length xs
 length-map f [] = refl

@@ -5,7 +5,7 @@ use Rattle.std.proofs.lemmas.Bool.Decides.{nat_tests, Decides-eqb}
 use Rattle.std.proofs.lemmas.Slice.Eq.{slice_eq-Decides}
 use Rattle.auto_core.specs.declared.labels.Literal.{Literal}
 use Rattle.auto_core.specs.declared.tables.Edge.{Edge}
-use Rattle.auto_core.specs.Graph.{same_edge}
+use Rattle.auto_core.specs.inner.Order.{same_edge}
 use Rattle.auto_core.specs.LiteralSets.{same_literal, same_label}
 
 abbrev literal : ℕ → Bool → Literal

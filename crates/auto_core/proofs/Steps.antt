@@ -6,8 +6,9 @@ use Rattle.std.proofs.lemmas.List.Elements.{All-push, All-same, All-contains}
 use Rattle.indexmap.specs.IndexSet.{insert_key}
 use Rattle.auto_core.specs.declared.tables.Edge.{Edge}
 use Rattle.auto_core.specs.Machine.{Machine}
-use Rattle.auto_core.specs.Graph.{Step, Reached, by_edge, ReachesMoreThan, once_each, numbered, same_edge, steps_from, steps_of}
-use Rattle.auto_core.specs.Exploring.{IsExplored, TakesEdge, FindsTooMany}
+use Rattle.auto_core.specs.Graph.{Reached, by_edge, ReachesMoreThan}
+use Rattle.auto_core.specs.inner.Order.{Step, once_each, numbered, same_edge, steps_from, steps_of}
+use Rattle.auto_core.specs.inner.Exploring.{IsExplored, TakesEdge, FindsTooMany}
 use Rattle.auto_core.proofs.Members.{Among, Contains-from_Among}
 use Rattle.auto_core.proofs.SameLabel.{same_edge-Decides}
 use Rattle.auto_core.proofs.Once.{Apart, Among-slice_get, Apart-push, AllPairs-from_Apart, Apart-once, Among-once, insert_key-there, insert_key-new, among_or_not, once_each-push, position-Among, position-absent, position-more, position-inserted}

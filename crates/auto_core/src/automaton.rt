@@ -1,8 +1,8 @@
 //! What every automaton offers.
 
-ghost use Rattle.std.specs.Prelude.{◌≡◌, ◌<◌, ◌↔◌, true, List, Some, length, slice_get, Contains, OnOk, OnErr};
-ghost use Rattle.auto_core.specs.LiteralSets.{IsLabel, put_all};
-ghost use Rattle.auto_core.specs.Machine.{Machine, Letter, Passes};
+ghost use Rattle.std.specs.Prelude.{◌≡◌, ◌<◌, true, length, Contains, OnOk};
+ghost use Rattle.auto_core.specs.Edges.{LeadsTo, PutsEdge, PassesEdge};
+ghost use Rattle.auto_core.specs.Machine.{Machine};
 ghost use Rattle.auto_core.specs.declared.labels.Literal.{Literal};
 
 use crate::labels::Label;
@@ -45,16 +45,17 @@ pub trait Auto {
         requires fit { fits self.now }
         requires owned { own self.now state }
         requires there { place < length ((machine self.now).edges state) }
-        ensures edge { (label : List Literal) × (slice_get ((machine self.now).edges state) place ≡ Some (label, result)) }
+        ensures edge { LeadsTo ((machine self.now).edges state) place result }
         ensures owned { own self.now result };
 
-    /// Puts the literals of the edge at this place into `onto`. After want of memory some of them may be there, beside all that were.
+    /// Puts the literals of the edge at this place into `onto`. After want of memory some of them may be there, beside all
+    /// that were.
     fn label(&self, state: Self::State, place: usize, onto: &mut Label) -> Result<(), AllocError>
         requires fit { fits self.now }
         requires owned { own self.now state }
         requires there { place < length ((machine self.now).edges state) }
-        ensures edge { OnOk result ((label : List Literal) × (next : Self.State) × (slice_get ((machine self.now).edges state) place ≡ Some (label, next)) × IsLabel label × (onto.new ≡ put_all label onto.old)) }
-        ensures passes { OnOk result ((label : List Literal) × (next : Self.State) × (slice_get ((machine self.now).edges state) place ≡ Some (label, next)) × ((a : Letter) → Passes onto.new a ↔ (Passes label a × Passes onto.old a))) }
+        ensures edge { OnOk result (PutsEdge ((machine self.now).edges state) place onto.old onto.new) }
+        ensures passes { OnOk result (PassesEdge ((machine self.now).edges state) place onto.old onto.new) }
         ensures kept { (l : Literal) → Contains onto.old l → Contains onto.new l };
 
     // Two states for which `==` answers true are the same state.

@@ -1,12 +1,14 @@
 //! The table of the states that an automaton reaches.
 
-ghost use Rattle.std.specs.Prelude.{◌≡◌, ◌↔◌, ℕ, ◌+◌, ◌<◌, ◌≤◌, List, [], ◌∷◌, ◌++◌, Some, length, take, slice_get, OnOk, IfOk, IsErrOf};
+ghost use Rattle.std.specs.Prelude.{◌≡◌, ◌↔◌, ◌+◌, ◌<◌, ◌≤◌, List, [], ◌∷◌, ◌++◌, Some, All};
+ghost use Rattle.std.specs.Prelude.{length, take, slice_get, OnOk, IfOk, IsErrOf};
 ghost use Rattle.std.specs.List.{position_or_len};
 ghost use Rattle.indexmap.specs.IndexSet.{insert_key};
 ghost use Rattle.auto_core.specs.declared.exploring.TableError.TheVariants.{TooMany};
 ghost use Rattle.auto_core.specs.Machine.{Letter, Accepts};
-ghost use Rattle.auto_core.specs.Graph.{graph_machine, ReachesMoreThan, IsGraphOf, same_edge, steps_from};
-ghost use Rattle.auto_core.specs.Exploring.{IsExplored, TakesEdge, FindsTooMany, AddsEdgesOf, AreFiled};
+ghost use Rattle.auto_core.specs.Graph.{graph_machine, ReachesMoreThan, IsReachedPart};
+ghost use Rattle.auto_core.specs.inner.Order.{same_edge, steps_from};
+ghost use Rattle.auto_core.specs.inner.Exploring.{IsExplored, TakesEdge, FindsTooMany, AddsEdgesOf, AreFiled};
 
 use crate::automaton::Auto;
 use crate::labels::Label;
@@ -191,15 +193,18 @@ fn explore_all<A: Auto>(
     explore(alloc, automaton, limit, seen, rows)
 }
 
-/// The automaton's states that are reached from its start, numbered as first seen, and the edges between them, equal ones once.
+/// The automaton's states that are reached from its start, numbered as first seen, and the edges between them, equal ones
+/// once.
 ///
 /// Time and memory grow with the number of these states and edges.
 pub fn materialise<A: Auto>(alloc: Global, automaton: &A, limit: u32) -> Result<Table, TableError>
     requires { A.fits automaton.now }
     ensures too_many { IsErrOf result TooMany → ReachesMoreThan (A.machine automaton.now) limit }
     ensures few { OnOk result (¬ ReachesMoreThan (A.machine automaton.now) limit) }
-    ensures same_graph { IfOk result (λ table. (names : List A.State) × IsGraphOf A.State.eq (A.own automaton.now) (A.machine automaton.now) names table) }
-    ensures same_words { IfOk result (λ table. (w : List Letter) → Accepts (graph_machine table) w ↔ Accepts (A.machine automaton.now) w) }
+    ensures same_part { IfOk result (λ table. (states : List A.State) ×
+        All (A.own automaton.now) states × IsReachedPart (A.machine automaton.now) states table) }
+    ensures same_words { IfOk result (λ table. (w : List Letter) →
+        Accepts (graph_machine table) w ↔ Accepts (A.machine automaton.now) w) }
 {
     let mut seen = Explored {
         states: IndexSet::new(alloc),

@@ -5,6 +5,7 @@ mod aliveness;
 mod automaton;
 mod exploring;
 mod labels;
+pub mod laws;
 mod tables;
 
 pub use aliveness::{Marks, alive};

@@ -1,5 +1,5 @@
 use Rattle.std.proofs.Common.{◌≡◌, sym, subst, List, ℕ, ◌∷◌, [], get_or, set, true, false, arith}
-use Rattle.auto_core.specs.Searching.{Spreads}
+use Rattle.auto_core.specs.inner.Searching.{Spreads}
 use Rattle.auto_core.proofs.Marking.{spread_new}
 use Rattle.auto_core.proofs.aliveness.mark.Goals as goal
 

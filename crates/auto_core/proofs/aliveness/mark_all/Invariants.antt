@@ -1,5 +1,5 @@
 use Rattle.std.proofs.Common.{take}
-use Rattle.auto_core.specs.Searching.{Spreads}
+use Rattle.auto_core.specs.inner.Searching.{Spreads}
 use Rattle.auto_core.proofs.aliveness.mark_all.Given as goal
 
 abbrev pub invariant-loop-state : goal.invariant-loop-state

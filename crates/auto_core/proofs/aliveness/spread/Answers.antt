@@ -2,7 +2,7 @@ use Rattle.std.proofs.Common.{◌≡◌, ◌∙◌, sym, ap, subst, ℕ, List, [
 use Rattle.std.proofs.lemmas.List.{get_or-map, length-map}
 use Rattle.auto_core.specs.declared.tables.Edge.{Edge}
 use Rattle.auto_core.specs.Graph.{Graph}
-use Rattle.auto_core.specs.Searching.{HasSources}
+use Rattle.auto_core.specs.inner.Searching.{HasSources}
 use Rattle.auto_core.proofs.Marking.{state_inside, row_inside, spread_step}
 use Rattle.auto_core.proofs.aliveness.spread.Goals as goal
 

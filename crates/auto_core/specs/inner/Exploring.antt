@@ -6,8 +6,9 @@ use Rattle.auto_core.specs.declared.labels.Literal.{Literal}
 use Rattle.auto_core.specs.declared.tables.Edge.{Edge}
 use Rattle.auto_core.specs.declared.tables.Row.{Row}
 use Rattle.auto_core.specs.Machine.{Machine}
-use Rattle.auto_core.specs.Graph.{Step, Reached, once_each, numbered, same_edge}
-use Rattle.auto_core.specs.Rows.{HasEdgesOf}
+use Rattle.auto_core.specs.Graph.{Reached}
+use Rattle.auto_core.specs.inner.Order.{Step, once_each, numbered, same_edge}
+use Rattle.auto_core.specs.inner.Rows.{HasEdgesOf}
 
 -- after these steps: the names that they led to, and their edges
 pub record IsExplored {S : Type 0} (eq : S → S → Bool) (own : S → Type 0) (m : Machine S) (limit : ℕ) (steps : List (Step S)) (names : List S) (edges : List Edge) : Type 0 where

@@ -1,7 +1,7 @@
 -- What is known while marks spread from the accepting states against the edges.
 use Rattle.std.specs.Prelude.{◌≡◌, ◌⊎◌, ℕ, ◌+◌, ◌<◌, Bool, true, false, not, List, [], length, slice_index_or, count_by}
 use Rattle.auto_core.specs.declared.tables.Edge.{Edge}
-use Rattle.auto_core.specs.Among.{Among}
+use Rattle.auto_core.specs.inner.Among.{Among}
 use Rattle.auto_core.specs.Graph.{Graph, graph_machine, IsAlive}
 
 abbrev pub IsMarked : List Bool → ℕ → Type 0

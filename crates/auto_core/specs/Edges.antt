@@ -1,0 +1,61 @@
+-- Lists of the edges that leave a state, each a label and a target, and lists that are made of such lists.
+use Rattle.std.specs.Prelude.{◌≡◌, ◌↔◌, ℕ, ◌≤◌, Bool, true, List, Some, length, map, flat_map, filter, slice_get, Contains}
+use Rattle.auto_core.specs.declared.labels.Literal.{Literal}
+use Rattle.auto_core.specs.LiteralSets.{IsLabel, put_all}
+use Rattle.auto_core.specs.Machine.{Machine, Letter, Passes}
+
+-- the edge with the same label, its target renamed
+abbrev pub renamed : {S U : Type 0} → (S → U) → List Literal × S → List Literal × U
+renamed f x = (x.0, f x.1)
+
+-- one edge of two: the literals of both labels, and a target made of both
+abbrev pub joined_edge : {S T U : Type 0} → (S → T → U) → List Literal × S → List Literal × T → List Literal × U
+joined_edge f x y = (put_all y.0 x.0, f x.1 y.1)
+
+-- each edge of the first list joined with each of the second
+abbrev pub products : {S T U : Type 0} →
+    (S → T → U) → List (List Literal × S) → List (List Literal × T) → List (List Literal × U)
+products f xs ys = flat_map (λ x. map (λ y. joined_edge f x y) ys) xs
+
+-- ---- the edge at a place
+
+-- the edge at the place leads to the state
+abbrev pub LeadsTo : {S : Type 0} → List (List Literal × S) → ℕ → S → Type 0
+LeadsTo edges k next = (label : List Literal) × (slice_get edges k ≡ Some (label, next))
+
+-- the literals of the edge at the place are put into the old set
+abbrev pub PutsEdge : {S : Type 0} → List (List Literal × S) → ℕ → List Literal → List Literal → Type 0
+PutsEdge {S} edges k old new =
+    (label : List Literal) × (next : S) × (slice_get edges k ≡ Some (label, next)) × IsLabel label
+    × (new ≡ put_all label old)
+
+-- a letter passes the new set exactly if it passes the edge at the place and the old set
+abbrev pub PassesEdge : {S : Type 0} → List (List Literal × S) → ℕ → List Literal → List Literal → Type 0
+PassesEdge {S} edges k old new =
+    (label : List Literal) × (next : S) × (slice_get edges k ≡ Some (label, next))
+    × ((a : Letter) → Passes new a ↔ (Passes label a × Passes old a))
+
+-- no state that is the machine's own has more than so many edges
+abbrev pub HasAtMost : {S : Type 0} → (S → Type 0) → Machine S → ℕ → Type 0
+HasAtMost {S} own m n = (s : S) → own s → length (m.edges s) ≤ n
+
+-- ---- which edges a list has that is made of others
+
+-- a list of renamed edges has those of the list, renamed
+abbrev pub HasRenamed : {S U : Type 0} → (S → U) → Type 0
+HasRenamed {S} {U} f =
+    (edges : List (List Literal × S)) (label : List Literal) (u : U) →
+    Contains (map (renamed f) edges) (label, u) ↔ ((s : S) × Contains edges (label, s) × (f s ≡ u))
+
+-- the products have each edge of the first list joined with each of the second
+abbrev pub HasJoined : {S T U : Type 0} → (S → T → U) → Type 0
+HasJoined {S} {T} {U} f =
+    (xs : List (List Literal × S)) (ys : List (List Literal × T)) (z : List Literal × U) →
+    Contains (products f xs ys) z
+    ↔ ((x : List Literal × S) × (y : List Literal × T) × Contains xs x × Contains ys y × (joined_edge f x y ≡ z))
+
+-- the edges that lead to a state for which the test answers true are those of the list that do
+abbrev pub HasTested : {S : Type 0} → (S → Bool) → Type 0
+HasTested {S} test =
+    (edges : List (List Literal × S)) (x : List Literal × S) →
+    Contains (filter (λ y. test y.1) edges) x ↔ (Contains edges x × (test x.1 ≡ true))
