@@ -1,6 +1,7 @@
 pub mod EdgeMembers
 pub mod ExploreAll
 pub mod ExploreState
+pub mod Filtered
 pub mod LabelLemmas
 pub mod LabelOrder
 pub mod Marking

@@ -17,6 +17,10 @@ abbrev pub products : {S T U : Type 0} →
     (S → T → U) → List (List Literal × S) → List (List Literal × T) → List (List Literal × U)
 products f xs ys = flat_map (λ x. map (λ y. joined_edge f x y) ys) xs
 
+-- the edges that lead to a state that accepts
+abbrev pub last_edges : {S : Type 0} → Machine S → S → List (List Literal × S)
+last_edges m s = filter (λ x. m.accepts x.1) (m.edges s)
+
 -- ---- the edge at a place
 
 -- the edge at the place leads to the state
