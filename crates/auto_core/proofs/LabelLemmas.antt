@@ -3,6 +3,7 @@ use Rattle.std.proofs.Common.{◌≡◌, ℕ, ◌<◌, Bool, true, cond, List, [
 use Rattle.auto_core.specs.declared.labels.Literal.{Literal}
 use Rattle.auto_core.specs.LiteralSets.{precedes, IsLabel, put_literal, put_all}
 use Rattle.auto_core.specs.Machine.{Letter, Passes}
+use Rattle.auto_core.specs.Edges.{PutsEdge, PassesEdge}
 use Rattle.auto_core.proofs.Members.{Among, Contains-from_Among, Among-from_Contains, ByRecursion-among, ByRecursion-from}
 use Rattle.auto_core.proofs.Once.{told}
 use Rattle.auto_core.proofs.LabelOrder.{rank, rank-below, rank-not_below, precedes-from_rank, rank-same}
@@ -179,9 +180,8 @@ put_all-put_all ys xs zs hx hy hz = same_label (put_all (put_all ys xs) zs) (put
 
 -- the clause `passes` of `Auto::label` follows from its clause `edge`
 pub passes_by_edge : {S : Type 0} (edges : List (List Literal × S)) (place : ℕ) (old new : List Literal)
-    → (label : List Literal) × (next : S) × (slice_get edges place ≡ Some (label, next)) × IsLabel label × (new ≡ put_all label old)
-    → (label : List Literal) × (next : S) × (slice_get edges place ≡ Some (label, next)) × ((a : Letter) → Passes new a ↔ (Passes label a × Passes old a))
-passes_by_edge edges place old new (label, next, there, ordered, same) =
+    → PutsEdge edges place old new → PassesEdge edges place old new
+passes_by_edge edges place old new (label, next, there, (ordered, same)) =
     (label, next, there, λ a. subst (λ (s : List Literal). Passes s a ↔ (Passes label a × Passes old a)) (sym same) (Passes-put_all label old a))
 
 -- what was there stays

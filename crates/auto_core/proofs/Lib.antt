@@ -1,3 +1,4 @@
+pub mod Copies
 pub mod EdgeMembers
 pub mod ExploreAll
 pub mod ExploreState

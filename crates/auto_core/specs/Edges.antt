@@ -27,21 +27,27 @@ last_edges m s = filter (λ x. m.accepts x.1) (m.edges s)
 abbrev pub LeadsTo : {S : Type 0} → List (List Literal × S) → ℕ → S → Type 0
 LeadsTo edges k next = (label : List Literal) × (slice_get edges k ≡ Some (label, next))
 
+-- an edge stands at the place, and its label is in P
+abbrev pub HasLabelAt : {S : Type 0} → List (List Literal × S) → ℕ → (List Literal → Type 0) → Type 0
+HasLabelAt {S} edges k P = (label : List Literal) × (next : S) × (slice_get edges k ≡ Some (label, next)) × P label
+
 -- the literals of the edge at the place are put into the old set
 abbrev pub PutsEdge : {S : Type 0} → List (List Literal × S) → ℕ → List Literal → List Literal → Type 0
-PutsEdge {S} edges k old new =
-    (label : List Literal) × (next : S) × (slice_get edges k ≡ Some (label, next)) × IsLabel label
-    × (new ≡ put_all label old)
+PutsEdge edges k old new = HasLabelAt edges k (λ label. IsLabel label × (new ≡ put_all label old))
 
 -- a letter passes the new set exactly if it passes the edge at the place and the old set
 abbrev pub PassesEdge : {S : Type 0} → List (List Literal × S) → ℕ → List Literal → List Literal → Type 0
-PassesEdge {S} edges k old new =
-    (label : List Literal) × (next : S) × (slice_get edges k ≡ Some (label, next))
-    × ((a : Letter) → Passes new a ↔ (Passes label a × Passes old a))
+PassesEdge edges k old new = HasLabelAt edges k (λ label. (a : Letter) → Passes new a ↔ (Passes label a × Passes old a))
 
--- no state that is the machine's own has more than so many edges
-abbrev pub HasAtMost : {S : Type 0} → (S → Type 0) → Machine S → ℕ → Type 0
-HasAtMost {S} own m n = (s : S) → own s → length (m.edges s) ≤ n
+-- The second machine has a copy of the first, with its states renamed.
+pub record HasCopy {S U : Type 0} (m : Machine S) (k : Machine U) (f : S → U) : Type 0 where
+  pub accepts : (s : S) → k.accepts (f s) ≡ m.accepts s
+  pub edges : (s : S) → k.edges (f s) ≡ map (renamed f) (m.edges s)
+
+-- neither the start nor another state that is the machine's own has more than so many edges
+pub record HasAtMost {S : Type 0} (own : S → Type 0) (m : Machine S) (n : ℕ) : Type 0 where
+  pub start : length (m.edges m.start) ≤ n
+  pub each : (s : S) → own s → length (m.edges s) ≤ n
 
 -- ---- which edges a list has that is made of others
 

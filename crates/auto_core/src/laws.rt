@@ -2,10 +2,10 @@
 
 ghost use Rattle.std.specs.Prelude.{◌≡◌, ◌↔◌, ◌⊎◌, ◌≤◌, ℕ, Bool, List, [], length, Contains};
 ghost use Rattle.auto_core.specs.declared.labels.Literal.{Literal};
-ghost use Rattle.auto_core.specs.Edges.{HasRenamed, HasJoined, HasTested};
+ghost use Rattle.auto_core.specs.Edges.{HasCopy, HasRenamed, HasJoined, HasTested};
 ghost use Rattle.auto_core.specs.Graph.{Graph, graph_machine, IsReachedPart};
 ghost use Rattle.auto_core.specs.LiteralSets.{IsLabel, put_all};
-ghost use Rattle.auto_core.specs.Machine.{Machine, Letter, Passes, Accepts};
+ghost use Rattle.auto_core.specs.Machine.{Machine, Letter, Passes, AcceptsFrom, Accepts};
 
 /// A set of literals that is put into another gives their union: it has the literals of both, a letter passes it exactly
 /// if it passes both, and a union is put in as its one part after the other.
@@ -31,6 +31,12 @@ pub fn joined_lists_have_the_joined_edges<S, T, U>()
 /// Which edges are left of a list by a test of targets.
 pub fn tested_lists_have_the_tested_edges<S>()
     ensures { (test : S → Bool) → HasTested test }
+{}
+
+/// A copy of a machine in another accepts from each state what the machine does.
+pub fn a_copy_of_a_machine_accepts_the_same<S, U>()
+    ensures { (m : Machine S) (k : Machine U) (f : S → U) (s : S) (w : List Letter) →
+        HasCopy m k f → AcceptsFrom k (f s) w ↔ AcceptsFrom m s w }
 {}
 
 /// Machines that have the same reached part accept the same lists, and so does the part itself.

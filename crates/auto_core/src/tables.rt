@@ -1,9 +1,10 @@
 //! Automata that are stored whole.
 
-ghost use Rattle.std.specs.Prelude.{◌≡◌, ◌+◌, ◌<◌, ◌≤◌, ◌==◌, ℕ, false, Some, All, Contains};
+ghost use Rattle.std.specs.Prelude.{◌≡◌, ◌+◌, ◌<◌, ◌==◌, false, Some, All, Contains};
 ghost use Rattle.std.specs.Prelude.{length, filter, map, slice_get, slice_index_or};
 ghost use Rattle.std.proofs.lemmas.Bool.Decides.{Decides-eqb};
 ghost use Rattle.auto_core.specs.LiteralSets.{IsLabel};
+ghost use Rattle.auto_core.specs.Edges.{HasAtMost};
 ghost use Rattle.auto_core.specs.Graph.{graph_machine, edges_from};
 ghost use Rattle.auto_core.specs.inner.Rows.{HasEdgesOf, IsFiled};
 
@@ -61,7 +62,7 @@ impl Table {
     pub fn edges(&self) -> &[Edge]
         ensures value { result.now ≡ self.now.edges }
         ensures between { All (λ e. e.from < length self.now.accepting × e.to < length self.now.accepting) result.now }
-        ensures few { (n : ℕ) → length (edges_from n self.now.edges) ≤ length result.now }
+        ensures few { HasAtMost (λ s. s < length self.now.accepting) (graph_machine self.now) (length result.now) }
     {
         self.edges.as_slice()
     }

@@ -4,7 +4,7 @@ use Rattle.std.proofs.lemmas.List.{length-map}
 use Rattle.std.proofs.Common.{length-append}
 use Rattle.std.proofs.Math.Nat.{div-lt_iff_lt-mul}
 use Rattle.auto_core.specs.declared.labels.Literal.{Literal}
-use Rattle.automata_product.specs.Edges.{joined_edge, products}
+use Rattle.auto_core.specs.Edges.{joined_edge, products}
 
 pub get-map : {X Y : Type 0} (f : X → Y) (xs : List X) (k : ℕ) (x : X) → slice_get xs k ≡ Some x → slice_get (map f xs) k ≡ Some (f x)
 get-map f [] k x e = absurd (cc)
