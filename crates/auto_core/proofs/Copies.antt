@@ -11,7 +11,8 @@ module _ {S U : Type 0} (m : Machine S) (k : Machine U) (f : S → U) (copy : Ha
   to_copy (a ∷ w) s (label, next, there, passes, rest) =
       let edge = (has_renamed f (m.edges s) label (f next)).1 (next, there, refl) in
       let same = sym (copy.edges s) in
-      (label, f next, subst (λ (es : List (List Literal × U)). Contains es (label, f next)) same edge, passes, to_copy w next rest)
+      (label, f next, subst (λ (es : List (List Literal × U)). Contains es (label, f next)) same edge, passes,
+          to_copy w next rest)
 
   from_copy : (w : List Letter) (s : S) → AcceptsFrom k (f s) w → AcceptsFrom m s w
   from_copy [] s h = subst IsTrue (copy.accepts s) h

@@ -9,7 +9,8 @@ again : (l : Literal) (ms : List Literal) → put_literal l (put_literal l ms) �
 again l [] = put_literal-there l l [] refl
 again l (m ∷ ms) =
     elim (compared l m) [
-      | inl e ↦ ap (λ s. put_literal l s) (put_literal-before l m ms e) ∙ put_literal-there l l (m ∷ ms) refl ∙ sym (put_literal-before l m ms e)
+      | inl e ↦ ap (λ s. put_literal l s) (put_literal-before l m ms e) ∙ put_literal-there l l (m ∷ ms) refl
+          ∙ sym (put_literal-before l m ms e)
       | inr two ↦ elim two [
         | inl e ↦
             ap (λ s. put_literal l s) (put_literal-after l m ms e) ∙ put_literal-after l m (put_literal l ms) e
@@ -29,7 +30,8 @@ above a b c h k =
     ]
 
 -- two literals, the lower one put last or first
-swapped_below : (a b : Literal) → precedes a b ≡ true → (ms : List Literal) → put_literal a (put_literal b ms) ≡ put_literal b (put_literal a ms)
+swapped_below : (a b : Literal) → precedes a b ≡ true → (ms : List Literal) →
+    put_literal a (put_literal b ms) ≡ put_literal b (put_literal a ms)
 swapped_below a b ab [] = put_literal-before a b [] ab ∙ sym (put_literal-after b a [] ab)
 swapped_below a b ab (m ∷ ms) =
     elim (compared b m) [
@@ -48,7 +50,8 @@ swapped_below a b ab (m ∷ ms) =
             | inl ma ↦
                 ap (λ s. put_literal a s) (put_literal-after b m ms mb) ∙ put_literal-after a m (put_literal b ms) ma
                 ∙ ap (λ s. m ∷ s) (swapped_below a b ab ms)
-                ∙ sym (ap (λ s. put_literal b s) (put_literal-after a m ms ma) ∙ put_literal-after b m (put_literal a ms) mb)
+                ∙ sym (ap (λ s. put_literal b s) (put_literal-after a m ms ma)
+                    ∙ put_literal-after b m (put_literal a ms) mb)
             | inr same ↦
                 ap (λ s. put_literal a s) (put_literal-after b m ms mb) ∙ put_literal-there a m (put_literal b ms) same
                 ∙ sym (ap (λ s. put_literal b s) (put_literal-there a m ms same) ∙ put_literal-after b m ms mb)
@@ -72,9 +75,11 @@ swapped a b ms =
       ]
     ]
 
-put_all-put_literal : (l : Literal) (ls ms : List Literal) → put_all ls (put_literal l ms) ≡ put_literal l (put_all ls ms)
+put_all-put_literal : (l : Literal) (ls ms : List Literal) → put_all ls (put_literal l ms) ≡ put_literal l
+    (put_all ls ms)
 put_all-put_literal l [] ms = refl
-put_all-put_literal l (k ∷ ls) ms = ap (λ s. put_all ls s) (swapped k l ms) ∙ put_all-put_literal l ls (put_literal k ms)
+put_all-put_literal l (k ∷ ls) ms = ap (λ s. put_all ls s) (swapped k l ms)
+    ∙ put_all-put_literal l ls (put_literal k ms)
 
 put_literal-into : (l : Literal) (ls ms : List Literal) → put_all (put_literal l ls) ms ≡ put_literal l (put_all ls ms)
 put_literal-into l [] ms = refl

@@ -1,5 +1,6 @@
 -- Lists of the edges that leave a state, each a label and a target, and lists that are made of such lists.
-use Rattle.std.specs.Prelude.{◌≡◌, ◌↔◌, ℕ, ◌≤◌, Bool, true, List, Some, length, map, flat_map, filter, slice_get, Contains}
+use Rattle.std.specs.Prelude.{◌≡◌, ◌↔◌, ℕ, ◌≤◌, Bool, true, List, Some, length, map, flat_map, filter, slice_get}
+use Rattle.std.specs.Prelude.{Contains}
 use Rattle.auto_core.specs.declared.labels.Literal.{Literal}
 use Rattle.auto_core.specs.LiteralSets.{IsLabel, put_all}
 use Rattle.auto_core.specs.Machine.{Machine, Letter, Passes}

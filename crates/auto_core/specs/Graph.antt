@@ -27,7 +27,8 @@ graph_machine g = record {
 -- some path leads from the start to the state
 pub data Reached {S : Type 0} (m : Machine S) : S → Type 0 where
   at_start : Reached m m.start
-  by_edge : {s : S} (label : List Literal) (next : S) → Reached m s → Contains (m.edges s) (label, next) → Reached m next
+  by_edge : {s : S} (label : List Literal) (next : S) → Reached m s → Contains (m.edges s) (label, next) →
+      Reached m next
 
 -- there are more than n states that some path leads to
 abbrev pub ReachesMoreThan : {S : Type 0} → Machine S → ℕ → Type 0

@@ -1,6 +1,7 @@
 //! From which states of a table an accepting state is reached.
 
-ghost use Rattle.std.specs.Prelude.{◌≡◌, ◌+◌, ◌<◌, [], ◌∷◌, ◌++◌, false, length, map, replicate, slice_index_or, vec_items};
+ghost use Rattle.std.specs.Prelude.{◌≡◌, ◌+◌, ◌<◌, [], ◌∷◌, ◌++◌, false, length, map, replicate, slice_index_or};
+ghost use Rattle.std.specs.Prelude.{vec_items};
 ghost use Rattle.std.specs.Prelude.{OnOk, IfOk, All, if◌then◌else◌};
 ghost use Rattle.auto_core.specs.Graph.{AreMarks};
 ghost use Rattle.auto_core.specs.inner.Searching.{HasSources, Spreads, IsSearch};

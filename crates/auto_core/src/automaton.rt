@@ -48,7 +48,8 @@ pub trait Auto {
         ensures edge { LeadsTo ((machine self.now).edges state) place result }
         ensures owned { own self.now result };
 
-    /// Puts the literals of the edge at this place into `onto`. After want of memory some of them may be there, beside all
+    /// Puts the literals of the edge at this place into `onto`. After want of memory some of them may be there,
+    /// beside all
     /// that were.
     fn label(&self, state: Self::State, place: usize, onto: &mut Label) -> Result<(), AllocError>
         requires fit { fits self.now }
@@ -84,7 +85,8 @@ pub trait Auto {
         requires owned { own self.now state }
         requires there { rank < length (last_edges (machine self.now) state) }
         ensures within { result < length ((machine self.now).edges state) }
-        ensures same { slice_get ((machine self.now).edges state) result ≡ slice_get (last_edges (machine self.now) state) rank }
+        ensures same { slice_get ((machine self.now).edges state) result ≡ slice_get
+            (last_edges (machine self.now) state) rank }
     {
         let mut seen = 0;
         for place in 0..self.edge_count(state) {

@@ -108,7 +108,8 @@ impl Label {
             .all(|literal| values[literal.symbol] == literal.positive)
     }
 
-    /// Puts all the literals of another label into the set. After want of memory some of them may be there, beside all that
+    /// Puts all the literals of another label into the set. After want of memory some of them may be there, beside
+    /// all that
     /// were.
     pub fn put_all(&mut self, other: &Label) -> Result<(), AllocError>
         ensures ok { OnOk result (self.new ≡ put_all other.now self.old) }

@@ -7,7 +7,8 @@ ghost use Rattle.auto_core.specs.Graph.{Graph, graph_machine, IsReachedPart};
 ghost use Rattle.auto_core.specs.LiteralSets.{IsLabel, put_all};
 ghost use Rattle.auto_core.specs.Machine.{Machine, Letter, Passes, AcceptsFrom, Accepts};
 
-/// A set of literals that is put into another gives their union: it has the literals of both, a letter passes it exactly
+/// A set of literals that is put into another gives their union: it has the literals of both, a letter passes it
+/// exactly
 /// if it passes both, and a union is put in as its one part after the other.
 pub fn a_union_has_the_literals_of_both()
     ensures members { (ls ms : List Literal) (l : Literal) →
@@ -43,6 +44,7 @@ pub fn a_copy_of_a_machine_accepts_the_same<S, U>()
 pub fn the_reached_part_decides_the_words<S, T>()
     ensures part { (m : Machine S) (states : List S) (g : Graph) (w : List Letter) →
         IsReachedPart m states g → Accepts (graph_machine g) w ↔ Accepts m w }
-    ensures machines { (m : Machine S) (n : Machine T) (states : List S) (others : List T) (g : Graph) (w : List Letter) →
+    ensures machines { (m : Machine S) (n : Machine T) (states : List S) (others : List T) (g : Graph)
+        (w : List Letter) →
         IsReachedPart m states g → IsReachedPart n others g → Accepts m w ↔ Accepts n w }
 {}

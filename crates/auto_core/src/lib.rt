@@ -1,4 +1,5 @@
-//! Automata over labels: labels, the trait that every automaton implements, tables, and from which states a table accepts.
+//! Automata over labels: labels, the trait that every automaton implements, tables, and from which states a table
+//! accepts.
 #![tactic(auto)]
 
 mod aliveness;

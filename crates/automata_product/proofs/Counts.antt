@@ -1,5 +1,5 @@
 -- How many edges a state of a product or of a fusion has at most.
-use Rattle.std.proofs.Common.{◌≡◌, ℕ, ◌+◌, ◌*◌, ◌<◌, ◌≤◌, List, ◌++◌, map, length, arith, length-append}
+use Rattle.std.proofs.Common.{◌≡◌, ℕ, ◌+◌, ◌*◌, ◌<◌, ◌≤◌, ◌^◌, List, ◌++◌, map, length, arith, length-append}
 use Rattle.std.specs.Prelude.{filter}
 use Rattle.std.proofs.lemmas.List.{length-map}
 use Rattle.std.proofs.lemmas.List.Sums.{length-filter, count_by-le-length}
@@ -13,6 +13,10 @@ use Rattle.automata_product.specs.Fuse.{fuse_machine, joint_edges}
 use Rattle.automata_product.specs.Sides.{OfSides}
 use Rattle.automata_product.proofs.Places.{length-products}
 
+pub product_below : (i j : ℕ) → i < 2 ^ 32 → j < 2 ^ 32 → i + i * j < 2 ^ 64
+product_below i j h k =
+    omega (arith, h, mul-le i j 4294967295 4294967295 (omega (arith, h)) (omega (arith, k)))
+
 module _ {S T : Type 0} (m : Machine S) (n : Machine T) where
   pub both_count : (p : S) (q : T) → length ((both_machine m n).edges (p, q)) ≡ length (m.edges p) * length (n.edges q)
   both_count p q = length-products (λ p q. (p, q)) (m.edges p) (n.edges q)
@@ -24,11 +28,13 @@ module _ {S T : Type 0} (m : Machine S) (n : Machine T) where
       ≤ length (m.edges p) + length (m.edges p) * length (n.edges n.start)
   fuse_left p =
       let lasts : length (last_edges m p) ≤ length (m.edges p) =
-          omega (arith, length-filter (λ x. m.accepts x.1) (m.edges p), count_by-le-length (λ x. m.accepts x.1) (m.edges p)) in
+          omega (arith, length-filter (λ x. m.accepts x.1) (m.edges p), count_by-le-length (λ x. m.accepts x.1)
+              (m.edges p)) in
       let firsts : length (n.edges n.start) ≤ length (n.edges n.start) = omega arith in
       omega (
         arith,
-        mul-le (length (last_edges m p)) (length (n.edges n.start)) (length (m.edges p)) (length (n.edges n.start)) lasts firsts,
+        mul-le (length (last_edges m p)) (length (n.edges n.start)) (length (m.edges p)) (length (n.edges n.start))
+            lasts firsts,
         length-products {U = Side S T} (λ last q. Right q) (last_edges m p) (n.edges n.start),
         length-map (m.edges p) (renamed {U = Side S T} Left),
         length-append (map (renamed {U = Side S T} Left) (m.edges p)) (joint_edges m n p),

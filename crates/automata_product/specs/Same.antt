@@ -11,13 +11,15 @@ abbrev pub IsExact : {S : Type 0} → (S → S → Bool) → Type 0
 IsExact {S} eq = (x y : S) → eq x y ≡ true → x ≡ y
 
 -- the comparison of states of two parts compares as those of the parts do
-pub record ComparesSides {S T : Type 0} (eq : Side S T → Side S T → Bool) (lefts : S → S → Bool) (rights : T → T → Bool) : Type 0 where
+pub record ComparesSides {S T : Type 0} (eq : Side S T → Side S T → Bool) (lefts : S → S → Bool)
+    (rights : T → T → Bool) : Type 0 where
   pub left : (p q : S) → eq (Left p) (Left q) ≡ lefts p q
   pub right : (p q : T) → eq (Right p) (Right q) ≡ rights p q
   pub left_right : (p : S) (q : T) → eq (Left p) (Right q) ≡ false
   pub right_left : (p : T) (q : S) → eq (Right p) (Left q) ≡ false
 
-module _ {S T : Type 0} {lefts : S → S → Bool} {rights : T → T → Bool} (first : IsExact lefts) (second : IsExact rights) where
+module _ {S T : Type 0} {lefts : S → S → Bool} {rights : T → T → Bool} (first : IsExact lefts)
+    (second : IsExact rights) where
   pub same_pair : IsExact {S = S × T} (λ x y. lefts x.0 y.0 && rights x.1 y.1)
   same_pair x y h =
       let both = and_parts (lefts x.0 y.0) (rights x.1 y.1) h in

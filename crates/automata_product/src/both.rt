@@ -23,13 +23,14 @@ impl<A: Auto, B: Auto> Both<A, B> {
     pub fn new(left: A, right: B) -> Both<A, B>
         ensures made { result ≡ record { left = left; right = right } }
         ensures words { (w : List Letter) →
-            Accepts (⟦<Both<A, B> as Auto>⟧.machine result) w ↔ (Accepts (A.machine left) w × Accepts (B.machine right) w) }
+            Accepts (⟦<Both<A, B> as Auto>⟧.machine result) w
+                ↔ (Accepts (A.machine left) w × Accepts (B.machine right) w) }
         ensures few { (i j : ℕ) →
             HasAtMost (A.own left) (A.machine left) i → HasAtMost (B.own right) (B.machine right) j →
             HasAtMost (⟦<Both<A, B> as Auto>⟧.own result) (⟦<Both<A, B> as Auto>⟧.machine result) (i * j) }
         ensures fits { (i j : ℕ) → A.fits left → B.fits right →
             HasAtMost (A.own left) (A.machine left) i → HasAtMost (B.own right) (B.machine right) j →
-            i * j < 2 ^ 64 → ⟦<Both<A, B> as Auto>⟧.fits result }
+            i < 2 ^ 32 → j < 2 ^ 32 → ⟦<Both<A, B> as Auto>⟧.fits result }
     {
         the_product_accepts_what_both_accept::<A::State, B::State>();
         Both { left, right }

@@ -35,7 +35,7 @@ impl<A: Auto, B: Auto> Fuse<A, B> {
             HasAtMost (⟦<Fuse<A, B> as Auto>⟧.own result) (⟦<Fuse<A, B> as Auto>⟧.machine result) (i + j + i * j) }
         ensures fits { (i j : ℕ) → A.fits left → B.fits right →
             HasAtMost (A.own left) (A.machine left) i → HasAtMost (B.own right) (B.machine right) j →
-            i + i * j < 2 ^ 64 → ⟦<Fuse<A, B> as Auto>⟧.fits result }
+            i < 2 ^ 32 → j < 2 ^ 32 → ⟦<Fuse<A, B> as Auto>⟧.fits result }
     {
         the_fusion_accepts_the_overlaps_in_one_letter::<A::State, B::State>();
         Fuse { left, right }
@@ -88,9 +88,11 @@ impl<A: Auto, B: Auto> Fuse<A, B> {
         requires owned { A.own self.now.left state }
         requires there { place < length (fuse_edges (A.machine self.now.left) (B.machine self.now.right) (Left state)) }
         ensures edge { OnOk result
-            (PutsEdge (fuse_edges (A.machine self.now.left) (B.machine self.now.right) (Left state)) place onto.old onto.new) }
+            (PutsEdge (fuse_edges (A.machine self.now.left) (B.machine self.now.right) (Left state)) place onto.old
+                onto.new) }
         ensures passes { OnOk result
-            (PassesEdge (fuse_edges (A.machine self.now.left) (B.machine self.now.right) (Left state)) place onto.old onto.new) }
+            (PassesEdge (fuse_edges (A.machine self.now.left) (B.machine self.now.right) (Left state)) place
+                onto.old onto.new) }
         ensures kept { (l : Literal) → Contains onto.old l → Contains onto.new l }
     {
         let count = self.left.edge_count(state);
@@ -107,9 +109,11 @@ impl<A: Auto, B: Auto> Fuse<A, B> {
         requires owned { A.own self.now.left state }
         requires there { place < length (joint_edges (A.machine self.now.left) (B.machine self.now.right) state) }
         ensures edge { OnOk result
-            (PutsEdge (joint_edges (A.machine self.now.left) (B.machine self.now.right) state) place onto.old onto.new) }
+            (PutsEdge (joint_edges (A.machine self.now.left) (B.machine self.now.right) state) place onto.old
+                onto.new) }
         ensures passes { OnOk result
-            (PassesEdge (joint_edges (A.machine self.now.left) (B.machine self.now.right) state) place onto.old onto.new) }
+            (PassesEdge (joint_edges (A.machine self.now.left) (B.machine self.now.right) state) place onto.old
+                onto.new) }
         ensures kept { (l : Literal) → Contains onto.old l → Contains onto.new l }
     {
         a_union_has_the_literals_of_both();

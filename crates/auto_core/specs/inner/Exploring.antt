@@ -11,7 +11,8 @@ use Rattle.auto_core.specs.inner.Order.{Step, once_each, numbered, same_edge}
 use Rattle.auto_core.specs.inner.Rows.{HasEdgesOf}
 
 -- after these steps: the names that they led to, and their edges
-pub record IsExplored {S : Type 0} (eq : S → S → Bool) (own : S → Type 0) (m : Machine S) (limit : ℕ) (steps : List (Step S)) (names : List S) (edges : List Edge) : Type 0 where
+pub record IsExplored {S : Type 0} (eq : S → S → Bool) (own : S → Type 0) (m : Machine S) (limit : ℕ)
+    (steps : List (Step S)) (names : List S) (edges : List Edge) : Type 0 where
   pub named : names ≡ once_each eq (m.start ∷ map (λ e. e.to) steps)
   pub owned : All own names
   pub reached : All (Reached m) names
@@ -19,17 +20,20 @@ pub record IsExplored {S : Type 0} (eq : S → S → Bool) (own : S → Type 0) 
   pub joined : edges ≡ once_each same_edge (map (numbered eq names) steps)
 
 -- an edge is taken: its target is named and the edge between the numbers is put in
-pub record TakesEdge {S : Type 0} (eq : S → S → Bool) (own : S → Type 0) (m : Machine S) (limit : ℕ) (state : S) (from : ℕ) (place : ℕ) (names : List S) (edges : List Edge) (names' : List S) (edges' : List Edge) : Type 0 where
+pub record TakesEdge {S : Type 0} (eq : S → S → Bool) (own : S → Type 0) (m : Machine S) (limit : ℕ) (state : S)
+    (from : ℕ) (place : ℕ) (names : List S) (edges : List Edge) (names' : List S) (edges' : List Edge) : Type 0 where
   pub label : List Literal
   pub next : S
   pub there : slice_get (m.edges state) place ≡ Some (label, next)
   pub owned : own next
   pub room : position_or_len (eq next) names < limit
   pub named : names' ≡ insert_key eq names next
-  pub added : edges' ≡ insert_key same_edge edges (record { from = from; label = label; to = position_or_len (eq next) names })
+  pub added : edges' ≡ insert_key same_edge edges
+      (record { from = from; label = label; to = position_or_len (eq next) names })
 
 -- the target of an edge is new, and there is no number for it
-pub record FindsTooMany {S : Type 0} (eq : S → S → Bool) (m : Machine S) (limit : ℕ) (state : S) (place : ℕ) (names : List S) : Type 0 where
+pub record FindsTooMany {S : Type 0} (eq : S → S → Bool) (m : Machine S) (limit : ℕ) (state : S) (place : ℕ)
+    (names : List S) : Type 0 where
   pub label : List Literal
   pub next : S
   pub there : slice_get (m.edges state) place ≡ Some (label, next)

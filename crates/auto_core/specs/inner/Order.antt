@@ -36,7 +36,8 @@ abbrev pub numbered : {S : Type 0} → (S → S → Bool) → List S → Step S 
 numbered eq names step = record { from = step.from; label = step.label; to = position_or_len (eq step.to) names }
 
 -- The table is the automaton's graph as far as it is reached, when state n is called by the n-th of the names.
-pub record IsGraphOf {S : Type 0} (eq : S → S → Bool) (own : S → Type 0) (m : Machine S) (names : List S) (g : Graph) : Type 0 where
+pub record IsGraphOf {S : Type 0} (eq : S → S → Bool) (own : S → Type 0) (m : Machine S) (names : List S)
+    (g : Graph) : Type 0 where
   -- the names are the start and then the targets of the named states' edges in order, each at its first place only
   pub named : names ≡ once_each eq (m.start ∷ map (λ e. e.to) (steps_from m 0 names))
   pub different : AllPairs (λ s t. s ≢ t) names

@@ -10,10 +10,12 @@ IsMarked marked n = slice_index_or marked n false ≡ true
 -- the n-th row has the states from which an edge leads to state n, and no other
 pub record HasSources (edges : List Edge) (rows : List (List ℕ)) : Type 0 where
   pub all : (edge : Edge) → Among edges edge → edge.to < length rows → Among (slice_index_or rows edge.to []) edge.from
-  pub only : (n p : ℕ) → Among (slice_index_or rows n []) p → (edge : Edge) × Among edges edge × (edge.from ≡ p) × (edge.to ≡ n)
+  pub only : (n p : ℕ) → Among (slice_index_or rows n []) p → (edge : Edge) × Among edges edge × (edge.from ≡ p) ×
+      (edge.to ≡ n)
 
 -- all of these states were marked, those that weren't so before with work left to do, and nothing else changed
-pub record Spreads (states : List ℕ) (marked : List Bool) (work : List ℕ) (marked' : List Bool) (work' : List ℕ) : Type 0 where
+pub record Spreads (states : List ℕ) (marked : List Bool) (work : List ℕ) (marked' : List Bool) (work' : List ℕ) :
+    Type 0 where
   pub size : length marked' ≡ length marked
   pub kept : (n : ℕ) → IsMarked marked n → IsMarked marked' n
   pub all : (n : ℕ) → Among states n → IsMarked marked' n

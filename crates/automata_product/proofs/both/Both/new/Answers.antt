@@ -1,5 +1,5 @@
 use Rattle.std.proofs.Common.{arith}
-use Rattle.automata_product.proofs.Counts.{both_few}
+use Rattle.automata_product.proofs.Counts.{both_few, product_below}
 use Rattle.automata_product.proofs.both.Both.new.Goals as goal
 
 pub returns-clause-words : goal.returns-clause-words
@@ -12,6 +12,6 @@ returns-clause-few g c = λ i j few more.
     both_few (g.A.Auto.machine c.args.left) (g.B.Auto.machine c.args.right) i j few more
 
 pub returns-clause-fits : goal.returns-clause-fits
-returns-clause-fits g c = λ i j left right few more small.
+returns-clause-fits g c = λ i j left right few more small narrow.
     let all = both_few (g.A.Auto.machine c.args.left) (g.B.Auto.machine c.args.right) i j few more in
-    (left, right, λ p q o k. omega (arith, all.each (p, q) (o, k), small))
+    (left, right, λ p q o k. omega (arith, all.each (p, q) (o, k), product_below i j small narrow))
