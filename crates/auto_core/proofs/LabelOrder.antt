@@ -17,7 +17,8 @@ ltb_false a b h = grind (arith, nat_tests)
 true_ltb : (a b : ℕ) → a < b → ltb a b ≡ true
 true_ltb a b h = grind (arith, nat_tests)
 
-by_sign : (s : ℕ) (p : Bool) (t : ℕ) (q : Bool) → precedes (record { symbol = s; positive = p }) (record { symbol = t; positive = q }) ≡ ltb (2 * s + cond p 1 0) (2 * t + cond q 1 0)
+by_sign : (s : ℕ) (p : Bool) (t : ℕ) (q : Bool) → precedes (record { symbol = s; positive = p })
+    (record { symbol = t; positive = q }) ≡ ltb (2 * s + cond p 1 0) (2 * t + cond q 1 0)
 by_sign s true t true = grind (arith, nat_tests)
 by_sign s true t false = grind (arith, nat_tests)
 by_sign s false t true = grind (arith, nat_tests)
@@ -35,7 +36,8 @@ rank-not_below a b h = ltb_false (rank a) (rank b) (sym (precedes-rank a b) ∙ 
 pub precedes-from_rank : (a b : Literal) → rank a < rank b → precedes a b ≡ true
 precedes-from_rank a b h = precedes-rank a b ∙ true_ltb (rank a) (rank b) h
 
-same_parts : (s : ℕ) (p : Bool) (t : ℕ) (q : Bool) → 2 * s + cond p 1 0 ≡ 2 * t + cond q 1 0 → ◌≡◌ {A = Literal} (record { symbol = s; positive = p }) (record { symbol = t; positive = q })
+same_parts : (s : ℕ) (p : Bool) (t : ℕ) (q : Bool) → 2 * s + cond p 1 0 ≡ 2 * t + cond q 1 0 →
+    ◌≡◌ {A = Literal} (record { symbol = s; positive = p }) (record { symbol = t; positive = q })
 same_parts s true t true h = let e : s ≡ t = omega arith in ap (λ (n : ℕ). record { symbol = n; positive = true }) e
 same_parts s true t false h = absurd (omega arith)
 same_parts s false t true h = absurd (omega arith)

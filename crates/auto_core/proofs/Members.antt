@@ -1,7 +1,8 @@
 -- Membership by recursion on the list, for proofs, and its two sides of `Contains`.
-use Rattle.std.proofs.Common.{◌≡◌, ℕ, zero, suc, ◌<◌, List, [], ◌∷◌, length, get_or, Contains, inl, inr, refl, subst, arith}
+use Rattle.std.proofs.Common.{◌≡◌, ℕ, zero, suc, ◌<◌, List, [], ◌∷◌, length, get_or, Contains, inl, inr, refl}
+use Rattle.std.proofs.Common.{subst, arith}
 use Rattle.std.specs.List.{AllByRecursion}
-pub use Rattle.auto_core.specs.Among.{Among}
+pub use Rattle.auto_core.specs.inner.Among.{Among}
 
 module _ {X : Type 0} where
   pub Contains-from_Among : (xs : List X) (x : X) → Among xs x → Contains xs x

@@ -1,10 +1,12 @@
 -- Lists of which each element is kept at its first place only, where a test decides which elements are equal.
-use Rattle.std.proofs.Common.{◌≡◌, ℕ, zero, suc, ◌+◌, ◌<◌, Bool, true, false, not, cond, ◌||◌, List, [], ◌∷◌, ◌++◌, length, get_or, filter, slice_get, Some, ◌⊎◌, inl, inr, refl, sym, ap, ◌∙◌, subst, arith, AllPairs, ◌≢◌}
+use Rattle.std.proofs.Common.{◌≡◌, ℕ, zero, suc, ◌+◌, ◌<◌, Bool, true, false, not, cond, ◌||◌, List, [], ◌∷◌, ◌++◌}
+use Rattle.std.proofs.Common.{length, get_or, filter, slice_get, Some, ◌⊎◌, inl, inr, refl, sym, ap, ◌∙◌, subst}
+use Rattle.std.proofs.Common.{arith, AllPairs, ◌≢◌}
 use Rattle.std.specs.Bool.{Decides}
 use Rattle.std.specs.Cmp.{IsEquivalence}
 use Rattle.std.specs.List.{list_any, position_or_len}
 use Rattle.indexmap.specs.IndexSet.{insert_key}
-use Rattle.auto_core.specs.Graph.{once_each}
+use Rattle.auto_core.specs.inner.Order.{once_each}
 use Rattle.auto_core.proofs.Members.{Among}
 
 -- a test with its answer
@@ -53,24 +55,34 @@ module _ {X : Type 0} where
           | inl f ↦ (inl f, subst (λ (z : X). p z ≡ true) f e)
           | inr f ↦ let r : Among xs x × (p x ≡ true) = Among-filter p xs x f in (inr r.0, r.1)
         ]
-        | inr e ↦ let r : Among xs x × (p x ≡ true) = Among-filter p xs x (subst (λ (b : Bool). Among (cond b (y ∷ filter p xs) (filter p xs)) x) e h) in (inr r.0, r.1)
+        | inr e ↦ let r : Among xs x ×
+            (p x ≡ true) = Among-filter p xs x
+            (subst (λ (b : Bool). Among (cond b (y ∷ filter p xs) (filter p xs)) x) e h) in (inr r.0, r.1)
       ]
 
   pub Among-filter_back : (p : X → Bool) (xs : List X) (x : X) → Among xs x → p x ≡ true → Among (filter p xs) x
   Among-filter_back p [] x h e = absurd h
-  Among-filter_back p (y ∷ xs) x (inl f) e = subst (λ (b : Bool). Among (cond b (y ∷ filter p xs) (filter p xs)) x) (sym (ap p f ∙ e)) (inl f)
+  Among-filter_back p (y ∷ xs) x (inl f) e = subst (λ (b : Bool). Among (cond b (y ∷ filter p xs) (filter p xs)) x)
+      (sym (ap p f ∙ e)) (inl f)
   Among-filter_back p (y ∷ xs) x (inr h) e =
       elim (told (p y)) [
-        | inl g ↦ subst (λ (b : Bool). Among (cond b (y ∷ filter p xs) (filter p xs)) x) (sym g) (inr (Among-filter_back p xs x h e))
-        | inr g ↦ subst (λ (b : Bool). Among (cond b (y ∷ filter p xs) (filter p xs)) x) (sym g) (Among-filter_back p xs x h e)
+        | inl g ↦ subst (λ (b : Bool). Among (cond b (y ∷ filter p xs) (filter p xs)) x) (sym g)
+            (inr (Among-filter_back p xs x h e))
+        | inr g ↦ subst (λ (b : Bool). Among (cond b (y ∷ filter p xs) (filter p xs)) x) (sym g)
+            (Among-filter_back p xs x h e)
       ]
 
-  pub filter-one : (p : X → Bool) (xs : List X) (x : X) → filter p (xs ++ x ∷ []) ≡ filter p xs ++ cond (p x) (x ∷ []) []
+  pub filter-one : (p : X → Bool) (xs : List X) (x : X) → filter p (xs ++ x ∷ []) ≡ filter p xs ++ cond (p x)
+      (x ∷ []) []
   filter-one p [] x = refl
   filter-one p (y ∷ xs) x =
       elim (told (p y)) [
-        | inl e ↦ ap (λ (b : Bool). cond b (y ∷ filter p (xs ++ x ∷ [])) (filter p (xs ++ x ∷ []))) e ∙ ap (λ (s : List X). y ∷ s) (filter-one p xs x) ∙ ap (λ (b : Bool). cond b (y ∷ filter p xs) (filter p xs) ++ cond (p x) (x ∷ []) []) (sym e)
-        | inr e ↦ ap (λ (b : Bool). cond b (y ∷ filter p (xs ++ x ∷ [])) (filter p (xs ++ x ∷ []))) e ∙ filter-one p xs x ∙ ap (λ (b : Bool). cond b (y ∷ filter p xs) (filter p xs) ++ cond (p x) (x ∷ []) []) (sym e)
+        | inl e ↦ ap (λ (b : Bool). cond b (y ∷ filter p (xs ++ x ∷ [])) (filter p (xs ++ x ∷ []))) e
+            ∙ ap (λ (s : List X). y ∷ s) (filter-one p xs x)
+            ∙ ap (λ (b : Bool). cond b (y ∷ filter p xs) (filter p xs) ++ cond (p x) (x ∷ []) []) (sym e)
+        | inr e ↦ ap (λ (b : Bool). cond b (y ∷ filter p (xs ++ x ∷ [])) (filter p (xs ++ x ∷ []))) e
+            ∙ filter-one p xs x
+            ∙ ap (λ (b : Bool). cond b (y ∷ filter p xs) (filter p xs) ++ cond (p x) (x ∷ []) []) (sym e)
       ]
 
   pub append-nil : (xs : List X) → xs ++ [] ≡ xs
@@ -81,14 +93,16 @@ module _ {X : Type 0} where
   Apart-filter p [] h = tt
   Apart-filter p (x ∷ xs) h =
       elim (told (p x)) [
-        | inl e ↦ subst (λ (b : Bool). Apart (cond b (x ∷ filter p xs) (filter p xs))) (sym e) ((λ f. h.0 (Among-filter p xs x f).0), Apart-filter p xs h.1)
+        | inl e ↦ subst (λ (b : Bool). Apart (cond b (x ∷ filter p xs) (filter p xs))) (sym e)
+            ((λ f. h.0 (Among-filter p xs x f).0), Apart-filter p xs h.1)
         | inr e ↦ subst (λ (b : Bool). Apart (cond b (x ∷ filter p xs) (filter p xs))) (sym e) (Apart-filter p xs h.1)
       ]
 
   pub Apart-push : (xs : List X) (x : X) → Apart xs → (Among xs x → ⊥) → Apart (xs ++ x ∷ [])
   Apart-push [] x h out = ((λ f. f), tt)
   Apart-push (y ∷ xs) x h out = (
-    (λ f. elim (Among-append xs (x ∷ []) y f) [ inl g ↦ h.0 g | inr g ↦ elim g [ inl e ↦ out (inl (sym e)) | inr i ↦ i ] ]),
+    (λ f. elim (Among-append xs (x ∷ []) y f)
+        [ inl g ↦ h.0 g | inr g ↦ elim g [ inl e ↦ out (inl (sym e)) | inr i ↦ i ] ]),
     Apart-push xs x h.1 (λ f. out (inr f)),
   )
 
@@ -100,9 +114,11 @@ module _ {X : Type 0} where
   pub AllPairs-from_Apart : (xs : List X) → Apart xs → AllPairs (λ x y. x ≢ y) xs
   AllPairs-from_Apart [] h i j d lt below = absurd (omega arith)
   AllPairs-from_Apart (x ∷ xs) h zero zero d lt below = absurd (omega arith)
-  AllPairs-from_Apart (x ∷ xs) h zero (suc j) d lt below = λ e. h.0 (subst (Among xs) (sym e) (Among-get_or xs j d (omega arith)))
+  AllPairs-from_Apart (x ∷ xs) h zero (suc j) d lt below =
+      λ e. h.0 (subst (Among xs) (sym e) (Among-get_or xs j d (omega arith)))
   AllPairs-from_Apart (x ∷ xs) h (suc i) zero d lt below = absurd (omega arith)
-  AllPairs-from_Apart (x ∷ xs) h (suc i) (suc j) d lt below = AllPairs-from_Apart xs h.1 i j d (omega arith) (omega arith)
+  AllPairs-from_Apart (x ∷ xs) h (suc i) (suc j) d lt below = AllPairs-from_Apart xs h.1 i j d (omega arith)
+      (omega arith)
 
   pub Apart-from_AllPairs : (xs : List X) → AllPairs (λ x y. x ≢ y) xs → Apart xs
   Apart-from_AllPairs [] h = tt
@@ -135,13 +151,15 @@ module _ {X : Type 0} (eq : X → X → Bool) (decides : (x y : X) → Decides (
       ]
 
   pub among_or_not : (xs : List X) (x : X) → Among xs x ⊎ (Among xs x → ⊥)
-  among_or_not xs x = elim (told (list_any (eq x) xs)) [ inl e ↦ inl (any-Among xs x e) | inr e ↦ inr (λ h. true-false (sym (Among-any xs x h) ∙ e)) ]
+  among_or_not xs x = elim (told (list_any (eq x) xs))
+      [ inl e ↦ inl (any-Among xs x e) | inr e ↦ inr (λ h. true-false (sym (Among-any xs x h) ∙ e)) ]
 
   pub insert_key-there : (ks : List X) (k : X) → Among ks k → insert_key eq ks k ≡ ks
   insert_key-there ks k h = ap (λ (b : Bool). cond b ks (ks ++ k ∷ [])) (Among-any ks k h)
 
   pub insert_key-new : (ks : List X) (k : X) → (Among ks k → ⊥) → insert_key eq ks k ≡ ks ++ k ∷ []
-  insert_key-new ks k out = elim (told (list_any (eq k) ks)) [ inl e ↦ absurd (out (any-Among ks k e)) | inr e ↦ ap (λ (b : Bool). cond b ks (ks ++ k ∷ [])) e ]
+  insert_key-new ks k out = elim (told (list_any (eq k) ks))
+      [ inl e ↦ absurd (out (any-Among ks k e)) | inr e ↦ ap (λ (b : Bool). cond b ks (ks ++ k ∷ [])) e ]
 
   not_eq : (x y : X) → (x ≡ y → ⊥) → not (eq x y) ≡ true
   not_eq x y out = elim (told (eq x y)) [ inl e ↦ absurd (out ((decides x y).0 e)) | inr e ↦ ap not e ]
@@ -165,7 +183,8 @@ module _ {X : Type 0} (eq : X → X → Bool) (decides : (x y : X) → Decides (
   pub Apart-once : (xs : List X) → Apart (once_each eq xs)
   Apart-once [] = tt
   Apart-once (x ∷ xs) = (
-    (λ h. let p : not (eq x x) ≡ true = (Among-filter (λ z. not (eq x z)) (once_each eq xs) x h).1 in true-false (sym p ∙ ap not ((decides x x).1 refl))),
+    (λ h. let p : not (eq x x) ≡ true = (Among-filter (λ z. not (eq x z)) (once_each eq xs) x h).1 in
+        true-false (sym p ∙ ap not ((decides x x).1 refl))),
     Apart-filter (λ z. not (eq x z)) (once_each eq xs) (Apart-once xs),
   )
 
@@ -176,27 +195,38 @@ module _ {X : Type 0} (eq : X → X → Bool) (decides : (x y : X) → Decides (
   once_each-push (x ∷ xs) y =
       let p : X → Bool = λ z. not (eq x z) in
       let rest : List X = once_each eq xs in
-      let start : once_each eq (x ∷ (xs ++ y ∷ [])) ≡ x ∷ filter (λ z. not (eq x z)) (insert_key eq (once_each eq xs) y) = ap (λ (s : List X). x ∷ filter (λ z. not (eq x z)) s) (once_each-push xs y) in
+      let start : once_each eq (x ∷ (xs ++ y ∷ [])) ≡ x ∷ filter (λ z. not (eq x z))
+          (insert_key eq (once_each eq xs) y) = ap (λ (s : List X). x ∷ filter (λ z. not (eq x z)) s)
+          (once_each-push xs y) in
       elim (among_or_not (x ∷ filter (λ z. not (eq x z)) (once_each eq xs)) y) [
         | inl h ↦ start ∙ kept x xs y h ∙ sym (insert_key-there (x ∷ filter (λ z. not (eq x z)) (once_each eq xs)) y h)
-        | inr out ↦ start ∙ added x xs y out ∙ sym (insert_key-new (x ∷ filter (λ z. not (eq x z)) (once_each eq xs)) y out)
+        | inr out ↦ start ∙ added x xs y out
+            ∙ sym (insert_key-new (x ∷ filter (λ z. not (eq x z)) (once_each eq xs)) y out)
       ]
     where
-      kept : (x : X) (xs : List X) (y : X) → Among (x ∷ filter (λ z. not (eq x z)) (once_each eq xs)) y → x ∷ filter (λ z. not (eq x z)) (insert_key eq (once_each eq xs) y) ≡ x ∷ filter (λ z. not (eq x z)) (once_each eq xs)
+      kept : (x : X) (xs : List X) (y : X) → Among (x ∷ filter (λ z. not (eq x z)) (once_each eq xs)) y →
+          x ∷ filter (λ z. not (eq x z)) (insert_key eq (once_each eq xs) y) ≡ x ∷ filter (λ z. not (eq x z))
+          (once_each eq xs)
       kept x xs y h = ap (λ (s : List X). x ∷ s) (elim (among_or_not (once_each eq xs) y) [
         | inl f ↦ ap (filter (λ z. not (eq x z))) (insert_key-there (once_each eq xs) y f)
         | inr out ↦ elim h [
-          | inl e ↦ ap (filter (λ z. not (eq x z))) (insert_key-new (once_each eq xs) y out) ∙ filter-one (λ z. not (eq x z)) (once_each eq xs) y
-              ∙ ap (λ (b : Bool). filter (λ z. not (eq x z)) (once_each eq xs) ++ cond (not b) (y ∷ []) []) ((decides x y).1 e) ∙ append-nil (filter (λ z. not (eq x z)) (once_each eq xs))
+          | inl e ↦ ap (filter (λ z. not (eq x z))) (insert_key-new (once_each eq xs) y out)
+              ∙ filter-one (λ z. not (eq x z)) (once_each eq xs) y
+              ∙ ap (λ (b : Bool). filter (λ z. not (eq x z)) (once_each eq xs) ++ cond (not b) (y ∷ []) [])
+                  ((decides x y).1 e) ∙ append-nil (filter (λ z. not (eq x z)) (once_each eq xs))
           | inr f ↦ absurd (out (Among-filter (λ z. not (eq x z)) (once_each eq xs) y f).0)
         ]
       ])
 
-      added : (x : X) (xs : List X) (y : X) → (Among (x ∷ filter (λ z. not (eq x z)) (once_each eq xs)) y → ⊥) → x ∷ filter (λ z. not (eq x z)) (insert_key eq (once_each eq xs) y) ≡ (x ∷ filter (λ z. not (eq x z)) (once_each eq xs)) ++ y ∷ []
+      added : (x : X) (xs : List X) (y : X) → (Among (x ∷ filter (λ z. not (eq x z)) (once_each eq xs)) y → ⊥) →
+          x ∷ filter (λ z. not (eq x z)) (insert_key eq (once_each eq xs) y) ≡
+          (x ∷ filter (λ z. not (eq x z)) (once_each eq xs)) ++ y ∷ []
       added x xs y out =
           let other : not (eq x y) ≡ true = not_eq x y (λ e. out (inl e)) in
-          let absent : Among (once_each eq xs) y → ⊥ = λ f. out (inr (Among-filter_back (λ z. not (eq x z)) (once_each eq xs) y f other)) in
-          ap (λ (s : List X). x ∷ s) (ap (filter (λ z. not (eq x z))) (insert_key-new (once_each eq xs) y absent) ∙ filter-one (λ z. not (eq x z)) (once_each eq xs) y
+          let absent : Among (once_each eq xs) y →
+              ⊥ = λ f. out (inr (Among-filter_back (λ z. not (eq x z)) (once_each eq xs) y f other)) in
+          ap (λ (s : List X). x ∷ s) (ap (filter (λ z. not (eq x z))) (insert_key-new (once_each eq xs) y absent)
+              ∙ filter-one (λ z. not (eq x z)) (once_each eq xs) y
           ∙ ap (λ (b : Bool). filter (λ z. not (eq x z)) (once_each eq xs) ++ cond b (y ∷ []) []) other)
 
   -- ---- places
@@ -204,17 +234,22 @@ module _ {X : Type 0} (eq : X → X → Bool) (decides : (x y : X) → Decides (
   place-here : (y x : X) (xs : List X) → eq x y ≡ true → position_or_len (eq x) (y ∷ xs) ≡ 0
   place-here y x xs e = ap (λ (b : Bool). cond (not b) (1 + position_or_len (eq x) xs) 0) e
 
-  place-next : (y x : X) (xs : List X) → eq x y ≡ false → position_or_len (eq x) (y ∷ xs) ≡ suc (position_or_len (eq x) xs)
-  place-next y x xs e = ap (λ (b : Bool). cond (not b) (1 + position_or_len (eq x) xs) 0) e ∙ (let f : 1 + position_or_len (eq x) xs ≡ suc (position_or_len (eq x) xs) = omega arith in f)
+  place-next : (y x : X) (xs : List X) → eq x y ≡ false → position_or_len (eq x) (y ∷ xs) ≡ suc
+      (position_or_len (eq x) xs)
+  place-next y x xs e = ap (λ (b : Bool). cond (not b) (1 + position_or_len (eq x) xs) 0) e
+      ∙ (let f : 1 + position_or_len (eq x) xs ≡ suc (position_or_len (eq x) xs) = omega arith in f)
 
-  pub position-Among : (xs : List X) (x : X) → Among xs x → (position_or_len (eq x) xs < length xs) × (slice_get xs (position_or_len (eq x) xs) ≡ Some x)
+  pub position-Among : (xs : List X) (x : X) → Among xs x → (position_or_len (eq x) xs < length xs) ×
+      (slice_get xs (position_or_len (eq x) xs) ≡ Some x)
   position-Among [] x h = absurd h
   position-Among (y ∷ xs) x h =
       elim (told (eq x y)) [
-        | inl e ↦ (let f = place-here y x xs e in omega arith, ap (slice_get (y ∷ xs)) (place-here y x xs e) ∙ ap (λ (z : X). Some z) (sym ((decides x y).0 e)))
+        | inl e ↦ (let f = place-here y x xs e in omega arith, ap (slice_get (y ∷ xs)) (place-here y x xs e)
+            ∙ ap (λ (z : X). Some z) (sym ((decides x y).0 e)))
         | inr e ↦ elim h [
           | inl f ↦ absurd (true-false (sym ((decides x y).1 (sym f)) ∙ e))
-          | inr f ↦ let r : (position_or_len (eq x) xs < length xs) × (slice_get xs (position_or_len (eq x) xs) ≡ Some x) = position-Among xs x f in
+          | inr f ↦ let r : (position_or_len (eq x) xs < length xs) ×
+              (slice_get xs (position_or_len (eq x) xs) ≡ Some x) = position-Among xs x f in
               (let g = place-next y x xs e in omega (arith, r.0), ap (slice_get (y ∷ xs)) (place-next y x xs e) ∙ r.1)
         ]
       ]
@@ -227,7 +262,8 @@ module _ {X : Type 0} (eq : X → X → Bool) (decides : (x y : X) → Decides (
         | inr e ↦ place-next y x xs e ∙ ap suc (position-absent xs x (λ f. out (inr f)))
       ]
 
-  pub position-more : (xs ys : List X) (x : X) → Among xs x → position_or_len (eq x) (xs ++ ys) ≡ position_or_len (eq x) xs
+  pub position-more : (xs ys : List X) (x : X) → Among xs x → position_or_len (eq x) (xs ++ ys) ≡ position_or_len
+      (eq x) xs
   position-more [] ys x h = absurd h
   position-more (y ∷ xs) ys x h =
       elim (told (eq x y)) [
@@ -239,21 +275,25 @@ module _ {X : Type 0} (eq : X → X → Bool) (decides : (x y : X) → Decides (
       ]
 
   -- the place that an element has after it is put in is the place that it had, or the end
-  pub position-inserted : (xs : List X) (x : X) → position_or_len (eq x) (insert_key eq xs x) ≡ position_or_len (eq x) xs
+  pub position-inserted : (xs : List X) (x : X) → position_or_len (eq x) (insert_key eq xs x) ≡ position_or_len
+      (eq x) xs
   position-inserted xs x =
       elim (among_or_not xs x) [
         | inl h ↦ ap (position_or_len (eq x)) (insert_key-there xs x h)
         | inr out ↦ ap (position_or_len (eq x)) (insert_key-new xs x out) ∙ at_end xs x out
       ]
     where
-      at_end : (xs : List X) (x : X) → (Among xs x → ⊥) → position_or_len (eq x) (xs ++ x ∷ []) ≡ position_or_len (eq x) xs
+      at_end : (xs : List X) (x : X) → (Among xs x → ⊥) → position_or_len (eq x) (xs ++ x ∷ []) ≡ position_or_len
+          (eq x) xs
       at_end [] x out = place-here x x [] ((decides x x).1 refl)
       at_end (y ∷ xs) x out =
           elim (told (eq x y)) [
             | inl e ↦ absurd (out (inl (sym ((decides x y).0 e))))
-            | inr e ↦ place-next y x (xs ++ x ∷ []) e ∙ ap suc (at_end xs x (λ f. out (inr f))) ∙ sym (place-next y x xs e)
+            | inr e ↦ place-next y x (xs ++ x ∷ []) e ∙ ap suc (at_end xs x (λ f. out (inr f)))
+                ∙ sym (place-next y x xs e)
           ]
 
 -- a test that answers true at equal values only, and meets the laws of `==`, decides them
-pub decides_by : {X : Type 0} (eq : X → X → Bool) → IsEquivalence eq → ((x y : X) → eq x y ≡ true → x ≡ y) → (x y : X) → Decides (eq x y) (x ≡ y)
+pub decides_by : {X : Type 0} (eq : X → X → Bool) → IsEquivalence eq → ((x y : X) → eq x y ≡ true → x ≡ y) →
+    (x y : X) → Decides (eq x y) (x ≡ y)
 decides_by eq laws same x y = (same x y, λ e. subst (λ (z : _). eq x z ≡ true) e (laws.refl x))

@@ -1,5 +1,6 @@
 -- When no state is left, what was seen is the graph of the automaton.
-use Rattle.std.proofs.Common.{◌≡◌, ℕ, zero, suc, ◌+◌, ◌<◌, ◌≤◌, ◌^◌, Bool, false, eqb, List, [], ◌∷◌, length, map, filter, get_or, slice_get, Some, inl, inr, ◌⊎◌, ◌↔◌, refl, sym, ap, ◌∙◌, subst, arith}
+use Rattle.std.proofs.Common.{◌≡◌, ℕ, zero, suc, ◌+◌, ◌<◌, ◌≤◌, ◌^◌, Bool, false, eqb, List, [], ◌∷◌, length, map}
+use Rattle.std.proofs.Common.{filter, get_or, slice_get, Some, inl, inr, ◌⊎◌, ◌↔◌, refl, sym, ap, ◌∙◌, subst, arith}
 use Rattle.std.specs.Bool.{Decides}
 use Rattle.std.specs.List.{position_or_len}
 use Rattle.std.proofs.lemmas.Bool.Decides.{Decides-eqb}
@@ -11,12 +12,15 @@ use Rattle.auto_core.specs.declared.labels.Literal.{Literal}
 use Rattle.auto_core.specs.declared.tables.Edge.{Edge}
 use Rattle.auto_core.specs.declared.tables.Row.{Row}
 use Rattle.auto_core.specs.Machine.{Machine, Letter, AcceptsFrom, Accepts}
-use Rattle.auto_core.specs.Rows.{IsFiled}
-use Rattle.auto_core.specs.Graph.{Step, Graph, Reached, at_start, by_edge, ReachesMoreThan, IsGraphOf, same_edge, numbered, steps_from, steps_of, edges_from, graph_machine}
-use Rattle.auto_core.specs.Exploring.{IsExplored, AreFiled}
+use Rattle.auto_core.specs.inner.Rows.{IsFiled}
+use Rattle.auto_core.specs.Graph.{Graph, Reached, at_start, by_edge, ReachesMoreThan, edges_from, graph_machine}
+use Rattle.auto_core.specs.inner.Order.{Step, IsGraphOf, same_edge, numbered, steps_from, steps_of}
+use Rattle.auto_core.specs.inner.Exploring.{IsExplored, AreFiled}
 use Rattle.auto_core.proofs.Members.{Among, Contains-from_Among, Among-from_Contains}
 use Rattle.auto_core.proofs.SameLabel.{same_edge-Decides}
-use Rattle.auto_core.proofs.Once.{Apart, AllPairs-from_Apart, Apart-from_AllPairs, Among-append, Among-left, Among-right, slice_get-Among, Among-filter, Among-filter_back, Among-once, once-Among, position-Among}
+use Rattle.auto_core.proofs.Once.{Apart, AllPairs-from_Apart, Apart-from_AllPairs, Among-append, Among-left}
+use Rattle.auto_core.proofs.Once.{Among-right, slice_get-Among, Among-filter, Among-filter_back, Among-once}
+use Rattle.auto_core.proofs.Once.{once-Among, position-Among}
 use Rattle.auto_core.proofs.Steps.{Among-map, map-Among, All-among, All-from_among, names-among, names-apart}
 
 -- ---- a list of different elements is no longer than one that has them all
@@ -32,7 +36,8 @@ length-without [] x h = absurd h
 length-without (y ∷ ys) x (inl e) = refl
 length-without (y ∷ ys) x (inr h) = ap suc (length-without ys x h)
 
-Among-without : {X : Type 0} (ys : List X) (x : X) (h : Among ys x) (z : X) → Among ys z → (x ≡ z) ⊎ Among (without ys x h) z
+Among-without : {X : Type 0} (ys : List X) (x : X) (h : Among ys x) (z : X) → Among ys z →
+    (x ≡ z) ⊎ Among (without ys x h) z
 unfolding without
 Among-without [] x h z k = absurd h
 Among-without (y ∷ ys) x (inl e) z (inl f) = inl (sym e ∙ f)
@@ -53,25 +58,29 @@ no_longer (x ∷ xs) ys apart into =
 
 -- ---- the steps of the states
 
-pub steps-there : {S : Type 0} (m : Machine S) (k : ℕ) (ss : List S) (n : ℕ) (s : S) (label : List Literal) (next : S) → slice_get ss n ≡ Some s → Among (m.edges s) (label, next)
+pub steps-there : {S : Type 0} (m : Machine S) (k : ℕ) (ss : List S) (n : ℕ) (s : S) (label : List Literal)
+    (next : S) → slice_get ss n ≡ Some s → Among (m.edges s) (label, next)
     → Among (steps_from m k ss) (record { from = k + n; label = label; to = next })
 steps-there m k [] n s label next h there = absurd (let e = h in cc)
 steps-there m k (t ∷ ss) zero s label next h there =
     let e : k ≡ k + 0 = omega arith in
     Among-left (steps_of m k t) (steps_from m (suc k) ss) (record { from = k + 0; label = label; to = next })
     (subst (λ (i : ℕ). Among (steps_of m k t) (record { from = i; label = label; to = next })) e
-    (Among-map (λ (e : List Literal × _). record { from = k; label = e.0; to = e.1 }) (m.edges t) (label, next) (subst (λ (z : _). Among (m.edges z) (label, next)) (sym (same_Some t s h)) there)))
+    (Among-map (λ (e : List Literal × _). record { from = k; label = e.0; to = e.1 }) (m.edges t) (label, next)
+        (subst (λ (z : _). Among (m.edges z) (label, next)) (sym (same_Some t s h)) there)))
 steps-there m k (t ∷ ss) (suc n) s label next h there =
     let e : suc k + n ≡ k + suc n = omega arith in
     Among-right (steps_of m k t) (steps_from m (suc k) ss) (record { from = k + suc n; label = label; to = next })
-    (subst (λ (i : ℕ). Among (steps_from m (suc k) ss) (record { from = i; label = label; to = next })) e (steps-there m (suc k) ss n s label next h there))
+    (subst (λ (i : ℕ). Among (steps_from m (suc k) ss) (record { from = i; label = label; to = next })) e
+        (steps-there m (suc k) ss n s label next h there))
 
 pub steps-from : {S : Type 0} (m : Machine S) (k : ℕ) (ss : List S) (step : Step S) → Among (steps_from m k ss) step
     → (n : ℕ) × (s : S) × (slice_get ss n ≡ Some s) × (step.from ≡ k + n) × Among (m.edges s) (step.label, step.to)
 steps-from m k [] step h = absurd h
 steps-from m k (t ∷ ss) step h =
     elim (Among-append (steps_of m k t) (steps_from m (suc k) ss) step h) [
-      | inl f ↦ let (e, there, same) = map-Among (λ (e : List Literal × _). record { from = k; label = e.0; to = e.1 }) (m.edges t) step f in (
+      | inl f ↦ let (e, there, same) =
+          map-Among (λ (e : List Literal × _). record { from = k; label = e.0; to = e.1 }) (m.edges t) step f in (
         0,
         t,
         refl,
@@ -82,53 +91,72 @@ steps-from m k (t ∷ ss) step h =
           (suc n, s, at, omega (arith, from), there)
     ]
 
-module _ {S : Type 0} (eq : S → S → Bool) (decides : (x y : S) → Decides (eq x y) (x ≡ y)) (own : S → Type 0) (m : Machine S) (limit : ℕ) where
+module _ {S : Type 0} (eq : S → S → Bool) (decides : (x y : S) → Decides (eq x y) (x ≡ y)) (own : S → Type 0)
+    (m : Machine S) (limit : ℕ) where
   -- ---- the start
 
-  pub start_seen : (names0 names : List S) (edges : List Edge) (start : S) → names0 ≡ [] → edges ≡ [] → start ≡ m.start → own start
-      → position_or_len (eq start) names0 < limit → names ≡ insert_key eq names0 start → IsExplored eq own m limit [] names edges
+  pub start_seen : (names0 names : List S) (edges : List Edge) (start : S) → names0 ≡ [] → edges ≡ [] →
+      start ≡ m.start → own start
+      → position_or_len (eq start) names0 < limit → names ≡ insert_key eq names0 start →
+          IsExplored eq own m limit [] names edges
   start_seen names0 names edges start none no_edges is owned room named =
-      let alone : names ≡ m.start ∷ [] = named ∙ ap (λ (s : List S). insert_key eq s start) none ∙ ap (λ (s : S). s ∷ []) is in
+      let alone : names ≡ m.start ∷ [] = named ∙ ap (λ (s : List S). insert_key eq s start) none
+          ∙ ap (λ (s : S). s ∷ []) is in
       let nowhere : position_or_len (eq start) names0 ≡ 0 = ap (position_or_len (eq start)) none in
       record {
         named = alone;
         owned = All-same own names (m.start ∷ []) alone (All-cons own m.start [] (subst own is owned) (All-nil own));
-        reached = All-same (Reached m) names (m.start ∷ []) alone (All-cons (Reached m) m.start [] at_start (All-nil (Reached m)));
+        reached = All-same (Reached m) names (m.start ∷ []) alone
+            (All-cons (Reached m) m.start [] at_start (All-nil (Reached m)));
         few = let l : length names ≡ 1 = ap (λ (s : List S). length s) alone in omega (arith, room);
         joined = no_edges;
       }
 
-  pub start_too_many : (names0 : List S) (start : S) → names0 ≡ [] → limit ≤ position_or_len (eq start) names0 → ReachesMoreThan m limit
+  pub start_too_many : (names0 : List S) (start : S) → names0 ≡ [] → limit ≤ position_or_len (eq start) names0 →
+      ReachesMoreThan m limit
   start_too_many names0 start none full =
       let nowhere : position_or_len (eq start) names0 ≡ 0 = ap (position_or_len (eq start)) none in
-      (m.start ∷ [], AllPairs-from_Apart (m.start ∷ []) ((λ f. f), tt), All-cons (Reached m) m.start [] at_start (All-nil (Reached m)), omega (arith, full))
+      (m.start ∷ [], AllPairs-from_Apart (m.start ∷ []) ((λ f. f), tt), All-cons (Reached m) m.start [] at_start
+          (All-nil (Reached m)), omega (arith, full))
 
   -- ---- all reached states are named
 
-  module _ (names : List S) (edges : List Edge) (seen : IsExplored eq own m limit (steps_from m 0 names) names edges) where
-    closed : (s : S) (label : List Literal) (next : S) → Among names s → Among (m.edges s) (label, next) → Among names next
+  module _ (names : List S) (edges : List Edge)
+      (seen : IsExplored eq own m limit (steps_from m 0 names) names edges) where
+    closed : (s : S) (label : List Literal) (next : S) → Among names s → Among (m.edges s) (label, next) →
+        Among names next
     closed s label next h there =
         let (n, lt, at) = slice_get-Among names s h in
         names-among eq decides own m limit (steps_from m 0 names) names edges seen next
-        (inr (Among-map (λ (e : Step S). e.to) (steps_from m 0 names) (record { from = 0 + n; label = label; to = next }) (steps-there m 0 names n s label next at there)))
+        (inr (Among-map (λ (e : Step S). e.to) (steps_from m 0 names)
+            (record { from = 0 + n; label = label; to = next }) (steps-there m 0 names n s label next at there)))
 
     pub reached_named : (s : S) → Reached m s → Among names s
-    reached_named s at_start = names-among eq decides own m limit (steps_from m 0 names) names edges seen m.start (inl refl)
-    reached_named s (by_edge {s = t} label next r there) = closed t label next (reached_named t r) (Among-from_Contains (m.edges t) (label, next) there)
+    reached_named s at_start = names-among eq decides own m limit (steps_from m 0 names) names edges seen m.start
+        (inl refl)
+    reached_named s (by_edge {s = t} label next r there) = closed t label next (reached_named t r)
+        (Among-from_Contains (m.edges t) (label, next) there)
 
     pub few_reached : ReachesMoreThan m limit → ⊥
     few_reached (states, different, reached, more) =
-        let short = no_longer states names (Apart-from_AllPairs states different) (λ s h. reached_named s (All-among (Reached m) states s reached h)) in
+        let short = no_longer states names (Apart-from_AllPairs states different)
+            (λ s h. reached_named s (All-among (Reached m) states s reached h)) in
         omega (arith, more, seen.few)
 
-    pub filed_all : (rows : List Row) → AreFiled m names edges rows → length rows ≡ length names → limit < 2 ^ 32 → IsFiled rows edges
+    pub filed_all : (rows : List Row) → AreFiled m names edges rows → length rows ≡ length names → limit < 2 ^ 32 →
+        IsFiled rows edges
     filed_all rows filed all fits = record {
-      some = (let h = Among-some names m.start (names-among eq decides own m limit (steps_from m 0 names) names edges seen m.start (inl refl)) in omega (arith, all));
+      some = (let h = Among-some names m.start
+          (names-among eq decides own m limit (steps_from m 0 names) names edges seen m.start (inl refl)) in
+          omega (arith, all));
       countable = omega (arith, all, seen.few, fits);
       rows_there = filed.rows_there;
       between = All-from_among (λ e. e.from < length rows × e.to < length rows) edges (λ e h.
-          let (step, k, same) = map-Among (numbered eq names) (steps_from m 0 names) e (once-Among same_edge same_edge-Decides (map (numbered eq names) (steps_from m 0 names)) e (subst (λ (s : List Edge). Among s e) seen.joined h)) in
-          let there : Among names step.to = names-among eq decides own m limit (steps_from m 0 names) names edges seen step.to (inr (Among-map (λ (e : Step S). e.to) (steps_from m 0 names) step k)) in
+          let (step, k, same) = map-Among (numbered eq names) (steps_from m 0 names) e
+              (once-Among same_edge same_edge-Decides (map (numbered eq names) (steps_from m 0 names)) e
+              (subst (λ (s : List Edge). Among s e) seen.joined h)) in
+          let there : Among names step.to = names-among eq decides own m limit (steps_from m 0 names) names edges
+              seen step.to (inr (Among-map (λ (e : Step S). e.to) (steps_from m 0 names) step k)) in
           let below = (position-Among eq decides names step.to there).0 in
           let to : position_or_len (eq step.to) names ≡ e.to = ap (λ (x : Edge). x.to) same in
           (All-among (λ e. e.from < length rows) edges e filed.below h, omega (arith, all)));
@@ -138,74 +166,16 @@ module _ {S : Type 0} (eq : S → S → Bool) (decides : (x y : S) → Decides (
         Among-some [] x h = absurd h
         Among-some (y ∷ xs) x h = omega arith
 
-    pub graph_all : (rows : List Row) (g : Graph) → AreFiled m names edges rows → length rows ≡ length names → g.accepting ≡ map (λ r. r.accepts) rows → g.edges ≡ edges
+    pub graph_all : (rows : List Row) (g : Graph) → AreFiled m names edges rows → length rows ≡ length names →
+        g.accepting ≡ map (λ r. r.accepts) rows → g.edges ≡ edges
         → IsGraphOf eq own m names g
     graph_all rows g filed all accepting same = record {
       named = seen.named;
-      different = AllPairs-from_Apart names (names-apart eq decides own m limit (steps_from m 0 names) names edges seen);
+      different = AllPairs-from_Apart names
+          (names-apart eq decides own m limit (steps_from m 0 names) names edges seen);
       owned = seen.owned;
       reached = seen.reached;
-      accepting = accepting ∙ filed.accepting ∙ ap (map m.accepts) (take_all (length rows) names (let e = all in omega arith));
+      accepting = accepting ∙ filed.accepting
+          ∙ ap (map m.accepts) (take_all (length rows) names (let e = all in omega arith));
       edges = same ∙ seen.joined;
     }
-
-  -- ---- the same words
-
-  module _ (names : List S) (g : Graph) (same : IsGraphOf eq own m names g) where
-    named_target : (step : Step S) → Among (steps_from m 0 names) step → Among names step.to
-    named_target step k = subst (λ (s : List S). Among s step.to) (sym same.named) (Among-once eq decides (m.start ∷ map (λ e. e.to) (steps_from m 0 names)) step.to (inr (Among-map (λ (e : Step S). e.to) (steps_from m 0 names) step k)))
-
-    accepts-at : (ss : List S) (n : ℕ) (s : S) → slice_get ss n ≡ Some s → get_or (map m.accepts ss) n false ≡ m.accepts s
-    accepts-at [] n s h = absurd (let e = h in cc)
-    accepts-at (t ∷ ss) zero s h = ap m.accepts (same_Some t s h)
-    accepts-at (t ∷ ss) (suc n) s h = accepts-at ss n s h
-
-    -- an edge of the table is one of the automaton
-    edge_back : (n : ℕ) (s : S) (label : List Literal) (k : ℕ) → slice_get names n ≡ Some s → Among (edges_from n g.edges) (label, k)
-        → (next : S) × Among (m.edges s) (label, next) × (slice_get names k ≡ Some next)
-    edge_back n s label k at h =
-        let (edge, filtered, parts) = map-Among (λ (e : Edge). (e.label, e.to)) (filter (λ e. eqb e.from n) g.edges) (label, k) h in
-        let kept = Among-filter (λ (e : Edge). eqb e.from n) g.edges edge filtered in
-        let (step, there, numbers) = map-Among (numbered eq names) (steps_from m 0 names) edge (once-Among same_edge same_edge-Decides (map (numbered eq names) (steps_from m 0 names)) edge (subst (λ (s : List Edge). Among s edge) same.edges kept.0)) in
-        let (i, t, named, from, out) = steps-from m 0 names step there in
-        let leaves : step.from ≡ n = ap (λ (e : Edge). e.from) numbers ∙ (Decides-eqb edge.from n).0 kept.1 in
-        let place : i ≡ n = omega (arith, from) in
-        let state : t ≡ s = same_Some t s (sym named ∙ ap (slice_get names) place ∙ at) in
-        let labelled : step.label ≡ label = ap (λ (e : Edge). e.label) numbers ∙ ap (λ (p : List Literal × ℕ). p.0) parts in
-        let led : position_or_len (eq step.to) names ≡ k = ap (λ (e : Edge). e.to) numbers ∙ ap (λ (p : List Literal × ℕ). p.1) parts in (
-          step.to,
-          subst (λ (l : List Literal). Among (m.edges s) (l, step.to)) labelled (subst (λ (z : S). Among (m.edges z) (step.label, step.to)) state out),
-          ap (slice_get names) (sym led) ∙ (position-Among eq decides names step.to (named_target step there)).1,
-        )
-
-    -- an edge of the automaton stands in the table
-    edge_on : (n : ℕ) (s : S) (label : List Literal) (next : S) → slice_get names n ≡ Some s → Among (m.edges s) (label, next)
-        → (k : ℕ) × Among (edges_from n g.edges) (label, k) × (slice_get names k ≡ Some next)
-    edge_on n s label next at h =
-        let step : Step S = record { from = 0 + n; label = label; to = next } in
-        let there : Among (steps_from m 0 names) (record { from = 0 + n; label = label; to = next }) = steps-there m 0 names n s label next at h in
-        let edge : Edge = record { from = 0 + n; label = label; to = position_or_len (eq next) names } in
-        let stands : Among g.edges (record { from = 0 + n; label = label; to = position_or_len (eq next) names }) = subst (λ (t : List Edge). Among t (record { from = 0 + n; label = label; to = position_or_len (eq next) names })) (sym same.edges)
-        (Among-once same_edge same_edge-Decides (map (numbered eq names) (steps_from m 0 names)) (record { from = 0 + n; label = label; to = position_or_len (eq next) names }) (Among-map (numbered eq names) (steps_from m 0 names) step there)) in
-        let from : 0 + n ≡ n = omega arith in (
-          position_or_len (eq next) names,
-          Among-map (λ (e : Edge). (e.label, e.to)) (filter (λ e. eqb e.from n) g.edges) edge (Among-filter_back (λ (e : Edge). eqb e.from n) g.edges edge stands ((Decides-eqb (0 + n) n).1 from)),
-          (position-Among eq decides names next (named_target step there)).1,
-        )
-
-    pub words_back : (w : List Letter) (n : ℕ) (s : S) → slice_get names n ≡ Some s → AcceptsFrom (graph_machine g) n w → AcceptsFrom m s w
-    words_back [] n s at h = sym (accepts-at names n s at) ∙ ap (λ (b : List Bool). get_or b n false) (sym same.accepting) ∙ h
-    words_back (a ∷ w) n s at (label, k, edge, passes, rest) =
-        let (next, there, named) = edge_back n s label k at (Among-from_Contains (edges_from n g.edges) (label, k) edge) in
-        (label, next, Contains-from_Among (m.edges s) (label, next) there, passes, words_back w k next named rest)
-
-    pub words_on : (w : List Letter) (n : ℕ) (s : S) → slice_get names n ≡ Some s → AcceptsFrom m s w → AcceptsFrom (graph_machine g) n w
-    words_on [] n s at h = ap (λ (b : List Bool). get_or b n false) same.accepting ∙ accepts-at names n s at ∙ h
-    words_on (a ∷ w) n s at (label, next, edge, passes, rest) =
-        let (k, there, named) = edge_on n s label next at (Among-from_Contains (m.edges s) (label, next) edge) in
-        (label, k, Contains-from_Among (edges_from n g.edges) (label, k) there, passes, words_on w k next named rest)
-
-    pub same_words : (w : List Letter) → Accepts (graph_machine g) w ↔ Accepts m w
-    same_words w =
-        let first : slice_get names 0 ≡ Some m.start = ap (λ (s : List S). slice_get s 0) same.named in
-        (words_back w 0 m.start first, words_on w 0 m.start first)

@@ -1,9 +1,8 @@
--- Tables as plain data, and when a table is the graph of the states that an automaton reaches.
-use Rattle.std.specs.Prelude.{◌≡◌, ℕ, suc, ◌<◌, Bool, false, not, List, [], ◌∷◌, ◌++◌, ◌==◌, ◌&&◌, None, length, map, filter, replicate, slice_index_or, AllPairs, All, Contains, ◌≢◌}
-use Rattle.std.specs.List.{position_or_len}
+-- Tables as plain data, when a table is the part of an automaton that its start reaches, and which states are alive.
+use Rattle.std.specs.Prelude.{◌≡◌, ◌≢◌, ◌↔◌, ℕ, ◌<◌, Bool, false, IsTrue, List, ◌==◌, None, Some, length, map, filter}
+use Rattle.std.specs.Prelude.{replicate, slice_get, slice_index_or, AllPairs, All, Contains}
 use Rattle.auto_core.specs.declared.labels.Literal.{Literal}
 use Rattle.auto_core.specs.declared.tables.Edge.{Edge}
-use Rattle.auto_core.specs.LiteralSets.{same_label}
 use Rattle.auto_core.specs.Machine.{Machine, AcceptsFrom}
 
 -- which of the states 0, 1, and so on accept, and all edges
@@ -15,64 +14,55 @@ pub record Graph : Type 0 where
 abbrev pub edges_from : ℕ → List Edge → List (List Literal × ℕ)
 edges_from n edges = map (λ e. (e.label, e.to)) (filter (λ e. e.from == n) edges)
 
--- whether two edges have the same ends and the same literals
-abbrev pub same_edge : Edge → Edge → Bool
-same_edge a b = (a.from == b.from) && (same_label a.label b.label && (a.to == b.to))
-
 -- the automaton that a table is: it starts in state 0
 abbrev pub graph_machine : Graph → Machine ℕ
-graph_machine g = record { start = 0; accepts = λ n. slice_index_or g.accepting n false; edges = λ n. edges_from n g.edges }
+graph_machine g = record {
+  start = 0;
+  accepts = λ n. slice_index_or g.accepting n false;
+  edges = λ n. edges_from n g.edges;
+}
 
 -- ---- the states that an automaton reaches
 
 -- some path leads from the start to the state
 pub data Reached {S : Type 0} (m : Machine S) : S → Type 0 where
   at_start : Reached m m.start
-  by_edge : {s : S} (label : List Literal) (next : S) → Reached m s → Contains (m.edges s) (label, next) → Reached m next
+  by_edge : {s : S} (label : List Literal) (next : S) → Reached m s → Contains (m.edges s) (label, next) →
+      Reached m next
 
 -- there are more than n states that some path leads to
 abbrev pub ReachesMoreThan : {S : Type 0} → Machine S → ℕ → Type 0
-ReachesMoreThan {S} m n = (states : List S) × AllPairs (λ s t. s ≢ t) states × All (Reached m) states × (n < length states)
+ReachesMoreThan {S} m n =
+    (states : List S) × AllPairs (λ s t. s ≢ t) states × All (Reached m) states × (n < length states)
 
--- ---- numbered states
+-- ---- the reached part, up to the numbers of its states
 
--- the elements, each at its first place only, where eq says which are the same
-abbrev pub once_each : {X : Type 0} → (X → X → Bool) → List X → List X
-once_each eq [] = []
-once_each eq (x ∷ xs) = x ∷ filter (λ y. not (eq x y)) (once_each eq xs)
+-- the edge is a step of the machine, where each number calls the state that the list has at its place
+abbrev pub IsStepOf : {S : Type 0} → Machine S → List S → Edge → Type 0
+IsStepOf {S} m states e =
+    (p : S) × (q : S) × (slice_get states e.from ≡ Some p) × (slice_get states e.to ≡ Some q)
+    × Contains (m.edges p) (e.label, q)
 
--- an edge that leaves the state of some number
-pub record Step (S : Type 0) : Type 0 where
-  pub from : ℕ
-  pub label : List Literal
-  pub to : S
-
--- the edges of the state s, which has the number n
-abbrev pub steps_of : {S : Type 0} → Machine S → ℕ → S → List (Step S)
-steps_of m n s = map (λ e. record { from = n; label = e.0; to = e.1 }) (m.edges s)
-
--- the edges of these states in their order, where the first of them has the number n
-abbrev pub steps_from : {S : Type 0} → Machine S → ℕ → List S → List (Step S)
-steps_from m n [] = []
-steps_from m n (s ∷ ss) = steps_of m n s ++ steps_from m (suc n) ss
-
--- the same edge between numbers, where each state has its place among the names for its number
-abbrev pub numbered : {S : Type 0} → (S → S → Bool) → List S → Step S → Edge
-numbered eq names step = record { from = step.from; label = step.label; to = position_or_len (eq step.to) names }
-
--- The table is the automaton's graph as far as it is reached, when state n is called by the n-th of the names.
-pub record IsGraphOf {S : Type 0} (eq : S → S → Bool) (own : S → Type 0) (m : Machine S) (names : List S) (g : Graph) : Type 0 where
-  -- the names are the start and then the targets of the named states' edges in order, each at its first place only
-  pub named : names ≡ once_each eq (m.start ∷ map (λ e. e.to) (steps_from m 0 names))
-  pub different : AllPairs (λ s t. s ≢ t) names
-  pub owned : All own names
-  pub reached : All (Reached m) names
-  pub accepting : g.accepting ≡ map m.accepts names
-  -- the edges of the named states in order, equal ones once
-  pub edges : g.edges ≡ once_each same_edge (map (numbered eq names) (steps_from m 0 names))
+-- The table is what the machine's start reaches, when number n calls the n-th state of the list.
+pub record IsReachedPart {S : Type 0} (m : Machine S) (states : List S) (g : Graph) : Type 0 where
+  -- the list has the start first, and each reached state once
+  pub start : slice_get states 0 ≡ Some m.start
+  pub different : AllPairs (λ s t. s ≢ t) states
+  pub reached : (s : S) → Contains states s ↔ Reached m s
+  -- the same states accept, and the edges are the steps between these states, each once
+  pub accepting : g.accepting ≡ map m.accepts states
+  pub edges : (e : Edge) → Contains g.edges e ↔ IsStepOf m states e
+  pub once : AllPairs (λ d e. d ≢ e) g.edges
 
 -- ---- aliveness
 
 -- some list of tops is accepted from the state, maybe the empty one
 abbrev pub IsAlive : {S : Type 0} → Machine S → S → Type 0
 IsAlive m s = (n : ℕ) × AcceptsFrom m s (replicate n None)
+
+-- the marks tell which states are alive
+pub record AreMarks (g : Graph) (marks : List Bool) : Type 0 where
+  pub each : length marks ≡ length g.accepting
+  pub alive :
+      (state : ℕ) → state < length g.accepting
+      → IsTrue (slice_index_or marks state false) ↔ IsAlive (graph_machine g) state

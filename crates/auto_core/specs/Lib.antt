@@ -1,8 +1,6 @@
-pub mod Among
-pub mod Exploring
+pub mod Edges
 pub mod Graph
 pub mod LiteralSets
 pub mod Machine
-pub mod Rows
-pub mod Searching
 pub mod Splits
+pub mod inner

@@ -16,7 +16,8 @@ abbrev pub Passes : List Literal → Letter → Type 0
 Passes label None = Unit {0}
 Passes label (Some values) = AllByRecursion (λ l. values l.symbol ≡ l.positive) label
 
--- the start state, which states accept, and the edges that leave a state, each with its label and the state that it leads to
+-- the start state, which states accept, and the edges that leave a state, each with its label and the state that it
+-- leads to
 pub record Machine (S : Type 0) : Type 0 where
   pub start : S
   pub accepts : S → Bool
@@ -25,7 +26,8 @@ pub record Machine (S : Type 0) : Type 0 where
 -- a path from this state to an accepting state reads the letters
 abbrev pub AcceptsFrom : {S : Type 0} → Machine S → S → List Letter → Type 0
 AcceptsFrom m s [] = IsTrue (m.accepts s)
-AcceptsFrom {S} m s (a ∷ w) = (label : List Literal) × (next : S) × Contains (m.edges s) (label, next) × Passes label a × AcceptsFrom m next w
+AcceptsFrom {S} m s (a ∷ w) = (label : List Literal) × (next : S) × Contains (m.edges s) (label, next) ×
+    Passes label a × AcceptsFrom m next w
 
 -- a path from the start to an accepting state reads the letters
 abbrev pub Accepts : {S : Type 0} → Machine S → List Letter → Type 0

@@ -1,4 +1,5 @@
--- What a list is made of, said by its splits: two lists one after the other, two that share one element, or finitely many non-empty ones.
+-- What a list is made of, said by its splits: two lists one after the other, two that share one element, or finitely
+-- many non-empty ones.
 use Rattle.std.specs.Prelude.{◌≡◌, ◌≢◌, List, [], ◌∷◌, ◌++◌}
 use Rattle.std.specs.List.{AllByRecursion}
 

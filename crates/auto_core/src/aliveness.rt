@@ -1,8 +1,10 @@
 //! From which states of a table an accepting state is reached.
 
-ghost use Rattle.std.specs.Prelude.{◌≡◌, ◌↔◌, ℕ, ◌+◌, ◌<◌, List, [], ◌∷◌, ◌++◌, false, length, map, replicate, slice_index_or, vec_items, IsTrue, OnOk, IfOk, All, if◌then◌else◌};
-ghost use Rattle.auto_core.specs.Graph.{graph_machine, IsAlive};
-ghost use Rattle.auto_core.specs.Searching.{HasSources, Spreads, IsSearch};
+ghost use Rattle.std.specs.Prelude.{◌≡◌, ◌+◌, ◌<◌, [], ◌∷◌, ◌++◌, false, length, map, replicate, slice_index_or};
+ghost use Rattle.std.specs.Prelude.{vec_items};
+ghost use Rattle.std.specs.Prelude.{OnOk, IfOk, All, if◌then◌else◌};
+ghost use Rattle.auto_core.specs.Graph.{AreMarks};
+ghost use Rattle.auto_core.specs.inner.Searching.{HasSources, Spreads, IsSearch};
 
 use crate::automaton::Auto;
 use crate::tables::{Edge, Table};
@@ -133,10 +135,10 @@ fn spread(
 
 /// The states from which an accepting state is reached over any labels, in no step or more.
 ///
-/// A label that no truth values pass counts too, since a top passes each label. Time and memory grow with the number of states and edges.
+/// A label that no truth values pass counts too, since a top passes each label. Time and memory grow with the number of
+/// states and edges.
 pub fn alive(alloc: Global, table: &Table) -> Result<Marks, AllocError>
-    ensures each { IfOk result (λ marks. length marks ≡ length table.now.accepting) }
-    ensures alive { IfOk result (λ marks. (state : ℕ) → state < length table.now.accepting → IsTrue (slice_index_or marks state false) ↔ IsAlive (graph_machine table.now) state) }
+    ensures { IfOk result (AreMarks table.now) }
 {
     let mut marked = Vec::new(alloc);
     let mut work = Vec::new(alloc);

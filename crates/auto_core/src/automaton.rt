@@ -1,8 +1,8 @@
 //! What every automaton offers.
 
-ghost use Rattle.std.specs.Prelude.{◌≡◌, ◌<◌, ◌↔◌, true, List, Some, length, slice_get, Contains, OnOk, OnErr};
-ghost use Rattle.auto_core.specs.LiteralSets.{IsLabel, put_all};
-ghost use Rattle.auto_core.specs.Machine.{Machine, Letter, Passes};
+ghost use Rattle.std.specs.Prelude.{◌≡◌, ◌<◌, true, length, slice_get, Contains, OnOk};
+ghost use Rattle.auto_core.specs.Edges.{LeadsTo, PutsEdge, PassesEdge, last_edges};
+ghost use Rattle.auto_core.specs.Machine.{Machine};
 ghost use Rattle.auto_core.specs.declared.labels.Literal.{Literal};
 
 use crate::labels::Label;
@@ -45,17 +45,61 @@ pub trait Auto {
         requires fit { fits self.now }
         requires owned { own self.now state }
         requires there { place < length ((machine self.now).edges state) }
-        ensures edge { (label : List Literal) × (slice_get ((machine self.now).edges state) place ≡ Some (label, result)) }
+        ensures edge { LeadsTo ((machine self.now).edges state) place result }
         ensures owned { own self.now result };
 
-    /// Puts the literals of the edge at this place into `onto`. After want of memory some of them may be there, beside all that were.
+    /// Puts the literals of the edge at this place into `onto`. After want of memory some of them may be there,
+    /// beside all
+    /// that were.
     fn label(&self, state: Self::State, place: usize, onto: &mut Label) -> Result<(), AllocError>
         requires fit { fits self.now }
         requires owned { own self.now state }
         requires there { place < length ((machine self.now).edges state) }
-        ensures edge { OnOk result ((label : List Literal) × (next : Self.State) × (slice_get ((machine self.now).edges state) place ≡ Some (label, next)) × IsLabel label × (onto.new ≡ put_all label onto.old)) }
-        ensures passes { OnOk result ((label : List Literal) × (next : Self.State) × (slice_get ((machine self.now).edges state) place ≡ Some (label, next)) × ((a : Letter) → Passes onto.new a ↔ (Passes label a × Passes onto.old a))) }
+        ensures edge { OnOk result (PutsEdge ((machine self.now).edges state) place onto.old onto.new) }
+        ensures passes { OnOk result (PassesEdge ((machine self.now).edges state) place onto.old onto.new) }
         ensures kept { (l : Literal) → Contains onto.old l → Contains onto.new l };
+
+    /// How many edges lead from the state to one that accepts.
+    ///
+    /// The time grows with the number of the state's edges; a table knows its answer.
+    fn last_count(&self, state: Self::State) -> usize
+        requires fit { fits self.now }
+        requires owned { own self.now state }
+        ensures { result ≡ length (last_edges (machine self.now) state) }
+    {
+        let mut count = 0;
+        for place in 0..self.edge_count(state) {
+            let next = self.target(state, place);
+            if self.accepts(next) {
+                count += 1;
+            }
+        }
+        count
+    }
+
+    /// The place among the state's edges of the one with this rank among those that lead to a state that accepts.
+    ///
+    /// The time grows with the number of the state's edges; a table knows its answer.
+    fn last_place(&self, state: Self::State, rank: usize) -> usize
+        requires fit { fits self.now }
+        requires owned { own self.now state }
+        requires there { rank < length (last_edges (machine self.now) state) }
+        ensures within { result < length ((machine self.now).edges state) }
+        ensures same { slice_get ((machine self.now).edges state) result ≡ slice_get
+            (last_edges (machine self.now) state) rank }
+    {
+        let mut seen = 0;
+        for place in 0..self.edge_count(state) {
+            let next = self.target(state, place);
+            if self.accepts(next) {
+                if seen == rank {
+                    return place;
+                }
+                seen += 1;
+            }
+        }
+        unreachable!()
+    }
 
     // Two states for which `==` answers true are the same state.
     ghost same: { (x y : Self.State) → Self.State.eq x y ≡ true → x ≡ y };
@@ -88,6 +132,14 @@ impl<A: Auto> Auto for &A {
 
     fn label(&self, state: A::State, place: usize, onto: &mut Label) -> Result<(), AllocError> {
         A::label(*self, state, place, onto)
+    }
+
+    fn last_count(&self, state: A::State) -> usize {
+        A::last_count(*self, state)
+    }
+
+    fn last_place(&self, state: A::State, rank: usize) -> usize {
+        A::last_place(*self, state, rank)
     }
 
     ghost same = { A.same };

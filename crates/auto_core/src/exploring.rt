@@ -1,12 +1,14 @@
 //! The table of the states that an automaton reaches.
 
-ghost use Rattle.std.specs.Prelude.{◌≡◌, ◌↔◌, ℕ, ◌+◌, ◌<◌, ◌≤◌, List, [], ◌∷◌, ◌++◌, Some, length, take, slice_get, OnOk, IfOk, IsErrOf};
+ghost use Rattle.std.specs.Prelude.{◌≡◌, ◌↔◌, ◌+◌, ◌<◌, ◌≤◌, List, [], ◌∷◌, ◌++◌, Some, All};
+ghost use Rattle.std.specs.Prelude.{length, take, slice_get, OnOk, IfOk, IsErrOf};
 ghost use Rattle.std.specs.List.{position_or_len};
 ghost use Rattle.indexmap.specs.IndexSet.{insert_key};
 ghost use Rattle.auto_core.specs.declared.exploring.TableError.TheVariants.{TooMany};
 ghost use Rattle.auto_core.specs.Machine.{Letter, Accepts};
-ghost use Rattle.auto_core.specs.Graph.{graph_machine, ReachesMoreThan, IsGraphOf, same_edge, steps_from};
-ghost use Rattle.auto_core.specs.Exploring.{IsExplored, TakesEdge, FindsTooMany, AddsEdgesOf, AreFiled};
+ghost use Rattle.auto_core.specs.Graph.{graph_machine, ReachesMoreThan, IsReachedPart};
+ghost use Rattle.auto_core.specs.inner.Order.{same_edge, steps_from};
+ghost use Rattle.auto_core.specs.inner.Exploring.{IsExplored, TakesEdge, FindsTooMany, AddsEdgesOf, AreFiled};
 
 use crate::automaton::Auto;
 use crate::labels::Label;
@@ -82,7 +84,8 @@ fn label_at<A: Auto>(
     requires fit { A.fits automaton.now }
     requires owned { A.own automaton.now state }
     requires there { place < length ((A.machine automaton.now).edges state) }
-    ensures label { IfOk result (λ label. (next : A.State) × (slice_get ((A.machine automaton.now).edges state) place ≡ Some (label, next))) }
+    ensures label { IfOk result
+        (λ label. (next : A.State) × (slice_get ((A.machine automaton.now).edges state) place ≡ Some (label, next))) }
     ensures memory { ¬ IsErrOf result TooMany }
 {
     let mut label = Label::new(alloc);
@@ -105,8 +108,11 @@ fn take_edge<A: Auto>(
     requires fit { A.fits automaton.now }
     requires owned { A.own automaton.now state }
     requires there { place < length ((A.machine automaton.now).edges state) }
-    ensures taken { OnOk result (TakesEdge A.State.eq (A.own automaton.now) (A.machine automaton.now) limit state from place seen.old.states.keys seen.old.edges.keys seen.new.states.keys seen.new.edges.keys) }
-    ensures too_many { IsErrOf result TooMany → FindsTooMany A.State.eq (A.machine automaton.now) limit state place seen.old.states.keys }
+    ensures taken { OnOk result
+        (TakesEdge A.State.eq (A.own automaton.now) (A.machine automaton.now) limit state from place
+        seen.old.states.keys seen.old.edges.keys seen.new.states.keys seen.new.edges.keys) }
+    ensures too_many { IsErrOf result TooMany → FindsTooMany A.State.eq (A.machine automaton.now) limit state place
+        seen.old.states.keys }
 {
     let next = automaton.target(state, place);
     let to = number(&mut seen.states, next, limit)?;
@@ -125,8 +131,13 @@ fn explore_state<A: Auto>(
 ) -> Result<(), TableError>
     requires fit { A.fits automaton.now }
     requires named { slice_get seen.old.states.keys from ≡ Some state }
-    requires explored { IsExplored A.State.eq (A.own automaton.now) (A.machine automaton.now) limit (steps_from (A.machine automaton.now) 0 (take from seen.old.states.keys)) seen.old.states.keys seen.old.edges.keys }
-    ensures explored { OnOk result (IsExplored A.State.eq (A.own automaton.now) (A.machine automaton.now) limit (steps_from (A.machine automaton.now) 0 (take (from + 1) seen.new.states.keys)) seen.new.states.keys seen.new.edges.keys) }
+    requires explored { IsExplored A.State.eq (A.own automaton.now) (A.machine automaton.now) limit
+        (steps_from (A.machine automaton.now) 0 (take from seen.old.states.keys)) seen.old.states.keys
+        seen.old.edges.keys }
+    ensures explored { OnOk result
+        (IsExplored A.State.eq (A.own automaton.now) (A.machine automaton.now) limit
+        (steps_from (A.machine automaton.now) 0 (take (from + 1) seen.new.states.keys)) seen.new.states.keys
+        seen.new.edges.keys) }
     ensures names { OnOk result ((more : List A.State) × (seen.new.states.keys ≡ seen.old.states.keys ++ more)) }
     ensures edges { OnOk result (AddsEdgesOf from seen.old.edges.keys seen.new.edges.keys) }
     ensures too_many { IsErrOf result TooMany → ReachesMoreThan (A.machine automaton.now) limit }
@@ -146,10 +157,14 @@ fn explore<A: Auto>(
     rows: &mut Vec<Row>,
 ) -> Result<(), TableError>
     requires fit { A.fits automaton.now }
-    requires begun { IsExplored A.State.eq (A.own automaton.now) (A.machine automaton.now) limit [] seen.old.states.keys seen.old.edges.keys }
+    requires begun { IsExplored A.State.eq (A.own automaton.now) (A.machine automaton.now) limit []
+        seen.old.states.keys seen.old.edges.keys }
     requires none { rows.old.items ≡ [] }
-    ensures explored { OnOk result (IsExplored A.State.eq (A.own automaton.now) (A.machine automaton.now) limit (steps_from (A.machine automaton.now) 0 seen.new.states.keys) seen.new.states.keys seen.new.edges.keys) }
-    ensures filed { OnOk result (AreFiled (A.machine automaton.now) seen.new.states.keys seen.new.edges.keys rows.new.items) }
+    ensures explored { OnOk result
+        (IsExplored A.State.eq (A.own automaton.now) (A.machine automaton.now) limit
+        (steps_from (A.machine automaton.now) 0 seen.new.states.keys) seen.new.states.keys seen.new.edges.keys) }
+    ensures filed { OnOk result
+        (AreFiled (A.machine automaton.now) seen.new.states.keys seen.new.edges.keys rows.new.items) }
     ensures all { OnOk result (length rows.new.items ≡ length seen.new.states.keys) }
     ensures too_many { IsErrOf result TooMany → ReachesMoreThan (A.machine automaton.now) limit }
 {
@@ -182,8 +197,11 @@ fn explore_all<A: Auto>(
     requires no_states { seen.old.states.keys ≡ [] }
     requires no_edges { seen.old.edges.keys ≡ [] }
     requires no_rows { rows.old.items ≡ [] }
-    ensures explored { OnOk result (IsExplored A.State.eq (A.own automaton.now) (A.machine automaton.now) limit (steps_from (A.machine automaton.now) 0 seen.new.states.keys) seen.new.states.keys seen.new.edges.keys) }
-    ensures filed { OnOk result (AreFiled (A.machine automaton.now) seen.new.states.keys seen.new.edges.keys rows.new.items) }
+    ensures explored { OnOk result
+        (IsExplored A.State.eq (A.own automaton.now) (A.machine automaton.now) limit
+        (steps_from (A.machine automaton.now) 0 seen.new.states.keys) seen.new.states.keys seen.new.edges.keys) }
+    ensures filed { OnOk result
+        (AreFiled (A.machine automaton.now) seen.new.states.keys seen.new.edges.keys rows.new.items) }
     ensures all { OnOk result (length rows.new.items ≡ length seen.new.states.keys) }
     ensures too_many { IsErrOf result TooMany → ReachesMoreThan (A.machine automaton.now) limit }
 {
@@ -191,15 +209,19 @@ fn explore_all<A: Auto>(
     explore(alloc, automaton, limit, seen, rows)
 }
 
-/// The automaton's states that are reached from its start, numbered as first seen, and the edges between them, equal ones once.
+/// The automaton's states that are reached from its start, numbered as first seen, and the edges between them, equal
+/// ones
+/// once.
 ///
 /// Time and memory grow with the number of these states and edges.
 pub fn materialise<A: Auto>(alloc: Global, automaton: &A, limit: u32) -> Result<Table, TableError>
     requires { A.fits automaton.now }
     ensures too_many { IsErrOf result TooMany → ReachesMoreThan (A.machine automaton.now) limit }
     ensures few { OnOk result (¬ ReachesMoreThan (A.machine automaton.now) limit) }
-    ensures same_graph { IfOk result (λ table. (names : List A.State) × IsGraphOf A.State.eq (A.own automaton.now) (A.machine automaton.now) names table) }
-    ensures same_words { IfOk result (λ table. (w : List Letter) → Accepts (graph_machine table) w ↔ Accepts (A.machine automaton.now) w) }
+    ensures same_part { IfOk result (λ table. (states : List A.State) ×
+        All (A.own automaton.now) states × IsReachedPart (A.machine automaton.now) states table) }
+    ensures same_words { IfOk result (λ table. (w : List Letter) →
+        Accepts (graph_machine table) w ↔ Accepts (A.machine automaton.now) w) }
 {
     let mut seen = Explored {
         states: IndexSet::new(alloc),

@@ -3,7 +3,7 @@
 ghost use Rattle.std.specs.Prelude.{◌≡◌, ◌<◌, ◌⊎◌, ◌↔◌, [], length, Some, IsTrue, OnOk, OnErr, All, Contains};
 ghost use Rattle.auto_core.specs.declared.labels.Literal.{Literal};
 ghost use Rattle.auto_core.specs.LiteralSets.{IsLabel, put_literal, put_all};
-ghost use Rattle.auto_core.specs.Machine.{Passes, value_in};
+ghost use Rattle.auto_core.specs.Machine.{Letter, Passes, value_in};
 ghost use Rattle.std.specs.Hash as fed;
 ghost use Rattle.std.specs.Cmp.Lexicographic.{pointwise, lists_per, lists_equiv};
 
@@ -97,7 +97,8 @@ impl Label {
         }
     }
 
-    /// Whether each literal's symbol has the literal's sign, where `values` has the truth value of each symbol by its number.
+    /// Whether each literal's symbol has the literal's sign, where `values` has the truth value of each symbol by its
+    /// number.
     pub fn holds(&self, values: &[bool]) -> bool
         requires { All (λ l. l.symbol < length values.now) self.now }
         ensures { IsTrue result ↔ Passes self.now (Some (value_in values.now)) }
@@ -107,9 +108,12 @@ impl Label {
             .all(|literal| values[literal.symbol] == literal.positive)
     }
 
-    /// Puts all the literals of another label into the set. After want of memory some of them may be there, beside all that were.
+    /// Puts all the literals of another label into the set. After want of memory some of them may be there, beside
+    /// all that
+    /// were.
     pub fn put_all(&mut self, other: &Label) -> Result<(), AllocError>
         ensures ok { OnOk result (self.new ≡ put_all other.now self.old) }
+        ensures passes { OnOk result ((a : Letter) → Passes self.new a ↔ (Passes other.now a × Passes self.old a)) }
         ensures kept { (l : Literal) → Contains self.old l → Contains self.new l }
     {
         for literal in other.literals() {

@@ -1,10 +1,12 @@
-//! Automata over labels: labels, the trait that every automaton implements, tables, and from which states a table accepts.
+//! Automata over labels: labels, the trait that every automaton implements, tables, and from which states a table
+//! accepts.
 #![tactic(auto)]
 
 mod aliveness;
 mod automaton;
 mod exploring;
 mod labels;
+pub mod laws;
 mod tables;
 
 pub use aliveness::{Marks, alive};

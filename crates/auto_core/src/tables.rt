@@ -1,11 +1,12 @@
 //! Automata that are stored whole.
 
-ghost use Rattle.std.specs.Prelude.{◌≡◌, ◌+◌, ◌<◌, ◌==◌, false, Some, All, Contains, length, filter, map, slice_get, slice_index_or};
-ghost use Rattle.std.proofs.Common.{arith};
-ghost use Rattle.std.proofs.lemmas.Bool.Decides.{nat_tests};
+ghost use Rattle.std.specs.Prelude.{◌≡◌, ◌+◌, ◌<◌, ◌==◌, false, Some, All, Contains};
+ghost use Rattle.std.specs.Prelude.{length, filter, map, slice_get, slice_index_or};
+ghost use Rattle.std.proofs.lemmas.Bool.Decides.{Decides-eqb};
 ghost use Rattle.auto_core.specs.LiteralSets.{IsLabel};
+ghost use Rattle.auto_core.specs.Edges.{HasAtMost};
 ghost use Rattle.auto_core.specs.Graph.{graph_machine, edges_from};
-ghost use Rattle.auto_core.specs.Rows.{HasEdgesOf, IsFiled};
+ghost use Rattle.auto_core.specs.inner.Rows.{HasEdgesOf, IsFiled};
 
 use crate::automaton::Auto;
 use crate::labels::Label;
@@ -42,7 +43,7 @@ impl Model for Table {
 
     ghost Value = { Graph };
 
-    ghost use Rattle.auto_core.specs.Rows.{IsFiled};
+    ghost use Rattle.auto_core.specs.inner.Rows.{IsFiled};
 
     ghost view = { λ t. record { accepting = map (λ r. r.accepts) t.rows.items; edges = t.edges.keys } };
 
@@ -61,6 +62,7 @@ impl Table {
     pub fn edges(&self) -> &[Edge]
         ensures value { result.now ≡ self.now.edges }
         ensures between { All (λ e. e.from < length self.now.accepting × e.to < length self.now.accepting) result.now }
+        ensures few { HasAtMost (λ s. s < length self.now.accepting) (graph_machine self.now) (length result.now) }
     {
         self.edges.as_slice()
     }
@@ -129,5 +131,5 @@ impl Auto for Table {
         onto.put_all(&self.edge(state, place).label)
     }
 
-    ghost same = { λ x y e. Prim.grind (arith, nat_tests) };
+    ghost same = { λ x y e. (Decides-eqb x y).0 e };
 }

@@ -1,8 +1,7 @@
 //! Each public call once with ample memory.
 
 ghost use Rattle.std.specs.Prelude.{◌≡◌, ◌==◌, ◌∷◌, []};
-ghost use Rattle.std.proofs.Common.{arith};
-ghost use Rattle.std.proofs.lemmas.Bool.Decides.{nat_tests};
+ghost use Rattle.std.proofs.lemmas.Bool.Decides.{Decides-eqb};
 
 use crate::{Auto, Label, Literal, TableError, alive, materialise};
 use std::alloc::AllocError;
@@ -51,7 +50,7 @@ impl Auto for Toggle {
         onto.put_all(&self.label)
     }
 
-    ghost same = { λ x y e. Prim.grind (arith, nat_tests) };
+    ghost same = { λ x y e. (Decides-eqb x y).0 e };
 }
 
 #[test]

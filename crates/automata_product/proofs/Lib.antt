@@ -1,9 +1,6 @@
-pub mod Members
-pub mod EdgeMembers
 pub mod BothWords
+pub mod Counts
+pub mod FusePlaces
 pub mod FuseWords
 pub mod Places
-pub mod Union
 pub mod Put
-pub mod Filtered
-pub mod FusePlaces

@@ -1,18 +1,14 @@
-use Rattle.std.specs.Prelude.{Bool, false, List, ◌++◌, map, filter}
+use Rattle.std.specs.Prelude.{Bool, false, List, ◌++◌, map}
 use Rattle.auto_core.specs.declared.labels.Literal.{Literal}
+use Rattle.auto_core.specs.Edges.{renamed, products, last_edges}
 use Rattle.auto_core.specs.Machine.{Machine}
 use Rattle.automata_product.specs.declared.side.Side.{Side}
 use Rattle.automata_product.specs.declared.side.Side.TheVariants.{Left, Right}
-use Rattle.automata_product.specs.Edges.{renamed, products}
 
 -- only a state of the right part may accept
 abbrev pub fuse_accepts : {S T : Type 0} → Machine T → Side S T → Bool
 fuse_accepts n (Left p) = false
 fuse_accepts n (Right q) = n.accepts q
-
--- the edges that lead to a state that accepts
-abbrev pub last_edges : {S : Type 0} → Machine S → S → List (List Literal × S)
-last_edges m p = filter (λ x. m.accepts x.1) (m.edges p)
 
 -- each last step of the left part from this state, together with each first step of the right part
 abbrev pub joint_edges : {S T : Type 0} → Machine S → Machine T → S → List (List Literal × Side S T)

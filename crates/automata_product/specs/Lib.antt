@@ -1,4 +1,3 @@
-pub mod Edges
 pub mod Both
 pub mod Fuse
 pub mod Same

@@ -1,43 +1,60 @@
--- The edges of a state, and on a condition after them the first edges of what follows, by their places.
-use Rattle.std.proofs.Common.{◌≡◌, ℕ, ◌+◌, ◌-◌, ◌<◌, ◌≤◌, Bool, true, false, cond, List, [], ◌++◌, map, length, refl, arith, length-append}
-use Rattle.std.proofs.lemmas.List.{length-map}
+-- The edges of a state, and on a condition after them the first edges of what follows.
+use Rattle.std.proofs.Common.{◌≡◌, ℕ, ◌<◌, Bool, true, false, cond, IsTrue, List, [], ◌∷◌, ◌++◌, map, slice_get}
+use Rattle.std.proofs.Common.{Contains}
+use Rattle.std.proofs.Common.{length, refl, ap, ◌∙◌, arith}
+use Rattle.std.specs.Option.{option_map}
+use Rattle.std.proofs.lemmas.Option.{slice_get-map}
 use Rattle.auto_core.specs.declared.labels.Literal.{Literal}
-use Rattle.automata_product.specs.Edges.{renamed, LeadsTo, PutsEdge}
-use Rattle.automata_product.proofs.Put.{leads-left, leads-right, leads-renamed, puts-left, puts-right, puts-renamed}
+use Rattle.auto_core.specs.Edges.{renamed, LeadsTo, HasLabelAt, PutsEdge, PassesEdge}
+use Rattle.auto_core.specs.LiteralSets.{IsLabel, put_all}
+use Rattle.automata_product.specs.declared.side.Side.{Side}
+use Rattle.automata_product.specs.declared.side.Side.TheVariants.{Left, Right}
 
-module _ {S T U : Type 0} (f : S → U) (g : T → U) (es : List (List Literal × S)) (fs : List (List Literal × T)) where
-  first_length : length (map (renamed f) es) ≡ length es
-  first_length = length-map es (renamed f)
+pub append-nil : {X : Type 0} (xs : List X) → xs ++ [] ≡ xs
+append-nil [] = refl
+append-nil (x ∷ xs) = ap (λ (t : List _). x ∷ t) (append-nil xs)
 
-  then_length : length (map (renamed g) fs) ≡ length fs
-  then_length = length-map fs (renamed g)
+-- what follows is there where the condition holds, and else nothing is
+pub followed : {X : Type 0} (b : Bool) (xs ys : List X) → b ≡ true → xs ++ cond b ys [] ≡ xs ++ ys
+followed b xs ys e = ap (λ (c : Bool). xs ++ cond c ys []) e
 
-  pub follow_count : (a c : ℕ) → a ≡ length es → c ≡ length fs → a + c ≡ length (map (renamed f) es ++ map (renamed g) fs)
-  follow_count a c e h = omega (arith, e, h, first_length, then_length, length-append (map (renamed f) es) (map (renamed g) fs))
+pub alone : {X : Type 0} (b : Bool) (xs ys : List X) → b ≡ false → xs ++ cond b ys [] ≡ xs
+alone b xs ys e = ap (λ (c : Bool). xs ++ cond c ys []) e ∙ append-nil xs
 
-  pub alone_count : (a : ℕ) → a ≡ length es → a ≡ length (map (renamed f) es ++ [])
-  alone_count a e = omega (arith, e, first_length, length-append (map (renamed f) es) [])
+-- what a list that is there only on a condition holds
+pub contains-if : {X : Type 0} (b : Bool) (xs : List X) (x : X) → IsTrue b → Contains xs x → Contains (cond b xs []) x
+contains-if true xs x t h = h
+contains-if false xs x t h = absurd (cc)
 
-  -- a place past the first edges is one of what follows, which then is there
-  pub follow_within : (b : Bool) (a k : ℕ) → a ≡ length es → a ≤ k → k < length (map (renamed f) es ++ cond b (map (renamed g) fs) []) → (b ≡ true) × (k - a < length fs)
-  follow_within true a k e low h =
-      (refl, omega (arith, e, low, h, first_length, then_length, length-append (map (renamed f) es) (map (renamed g) fs)))
-  follow_within false a k e low h = absurd (omega (arith, alone_count a e))
+pub none : {X : Type 0} (x : X) → Contains [] x → ⊥
+none x h = omega (arith, h.1)
 
-  pub follow_leads_first : (b : Bool) (k : ℕ) (p : S) → LeadsTo es k p → LeadsTo (map (renamed f) es ++ cond b (map (renamed g) fs) []) k (f p)
-  follow_leads_first b k p h =
-      leads-left (map (renamed f) es) (cond b (map (renamed g) fs) []) k (f p) (leads-renamed f es k p h)
+pub contains-if_cases : {X : Type 0} (b : Bool) (xs : List X) (x : X) →
+    Contains (cond b xs []) x → IsTrue b × Contains xs x
+contains-if_cases true xs x h = (refl, h)
+contains-if_cases false xs x h = absurd (none x h)
 
-  pub follow_leads_then : (b : Bool) (a k : ℕ) (q : T) → b ≡ true → a ≡ length es → a ≤ k → LeadsTo fs (k - a) q → LeadsTo (map (renamed f) es ++ cond b (map (renamed g) fs) []) k (g q)
-  follow_leads_then true a k q t e low h =
-      leads-right (map (renamed f) es) (map (renamed g) fs) (k - a) k (g q) (omega (arith, e, first_length)) (leads-renamed g fs (k - a) q h)
-  follow_leads_then false a k q t e low h = absurd (cc)
+-- ---- renamed edges by their places
 
-  pub follow_puts_first : (b : Bool) (k : ℕ) (old new : List Literal) → PutsEdge es k old new → PutsEdge (map (renamed f) es ++ cond b (map (renamed g) fs) []) k old new
-  follow_puts_first b k old new h =
-      puts-left (map (renamed f) es) (cond b (map (renamed g) fs) []) k old new (puts-renamed f es k old new h)
+module _ {S U : Type 0} (f : S → U) where
+  pub leads-renamed : (xs : List (List Literal × S)) (k : ℕ) (next : S) →
+      LeadsTo xs k next → LeadsTo (map (renamed f) xs) k (f next)
+  leads-renamed xs k next h = (h.0, slice_get-map (renamed f) xs k ∙ ap (option_map (renamed f)) h.1)
 
-  pub follow_puts_then : (b : Bool) (a k : ℕ) (old new : List Literal) → b ≡ true → a ≡ length es → a ≤ k → PutsEdge fs (k - a) old new → PutsEdge (map (renamed f) es ++ cond b (map (renamed g) fs) []) k old new
-  follow_puts_then true a k old new t e low h =
-      puts-right (map (renamed f) es) (map (renamed g) fs) (k - a) k old new (omega (arith, e, first_length)) (puts-renamed g fs (k - a) old new h)
-  follow_puts_then false a k old new t e low h = absurd (cc)
+  pub puts-renamed : (xs : List (List Literal × S)) (k : ℕ) (old new : List Literal) →
+      PutsEdge xs k old new → PutsEdge (map (renamed f) xs) k old new
+  puts-renamed xs k old new h = (h.0, f h.1, slice_get-map (renamed f) xs k ∙ ap (option_map (renamed f)) h.2, h.3)
+
+  pub passes-renamed : (xs : List (List Literal × S)) (k : ℕ) (old new : List Literal) →
+      PassesEdge xs k old new → PassesEdge (map (renamed f) xs) k old new
+  passes-renamed xs k old new h = (h.0, f h.1, slice_get-map (renamed f) xs k ∙ ap (option_map (renamed f)) h.2, h.3)
+
+-- the edges of two states, their targets renamed by side
+pub either_renamed : {S T U : Type 0} (h : Side S T → U) (es : List (List Literal × S)) (fs : List (List Literal × T)) →
+    map (renamed h) (map (renamed Left) es ++ map (renamed Right) fs)
+    ≡ map (renamed (λ (p : S). h (Left p))) es ++ map (renamed (λ (q : T). h (Right q))) fs
+either_renamed h [] [] = refl
+either_renamed {U = U} h [] (y ∷ fs) =
+    ap (λ (t : List (List Literal × U)). (y.0, h (Right y.1)) ∷ t) (either_renamed h [] fs)
+either_renamed {U = U} h (x ∷ es) fs =
+    ap (λ (t : List (List Literal × U)). (x.0, h (Left x.1)) ∷ t) (either_renamed h es fs)

@@ -1,7 +1,8 @@
-pub mod LeafWords
 pub mod ConcatWords
-pub mod OneOfWords
-pub mod RepeatWords
+pub mod Counts
+pub mod Either
 pub mod Follow
 pub mod LeafPlaces
-pub mod Small
+pub mod LeafWords
+pub mod OneOfWords
+pub mod RepeatWords

@@ -3,7 +3,7 @@ use Rattle.auto_core.specs.declared.labels.Literal.{Literal}
 use Rattle.auto_core.specs.Machine.{Machine}
 use Rattle.automata_product.specs.declared.side.Side.{Side}
 use Rattle.automata_product.specs.declared.side.Side.TheVariants.{Left, Right}
-use Rattle.automata_product.specs.Edges.{renamed}
+use Rattle.auto_core.specs.Edges.{renamed}
 
 -- the right part's accepting states, and the left part's where the right part accepts the empty list
 abbrev pub concat_accepts : {S T : Type 0} → Machine S → Machine T → Side S T → Bool

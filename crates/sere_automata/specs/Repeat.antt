@@ -1,7 +1,7 @@
 use Rattle.std.specs.Prelude.{Bool, true, if◌then◌else◌, List, [], ◌++◌, map}
 use Rattle.auto_core.specs.declared.labels.Literal.{Literal}
 use Rattle.auto_core.specs.Machine.{Machine}
-use Rattle.automata_product.specs.Edges.{renamed}
+use Rattle.auto_core.specs.Edges.{renamed}
 use Rattle.sere_automata.specs.declared.states.Round.{Round}
 use Rattle.sere_automata.specs.declared.states.Round.TheVariants.{New, Inner}
 

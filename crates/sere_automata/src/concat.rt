@@ -1,17 +1,18 @@
 //! Two automata, one after the other.
 
-ghost use Rattle.std.specs.Prelude.{◌≡◌, ◌<◌, ◌^◌, ◌↔◌, List, length, Contains, OnOk, refl};
+ghost use Rattle.std.specs.Prelude.{◌≡◌, ◌<◌, ◌+◌, ◌^◌, ◌↔◌, ℕ, List, length, Contains, OnOk, refl};
+ghost use Rattle.auto_core.specs.declared.labels.Literal.{Literal};
+ghost use Rattle.auto_core.specs.Edges.{HasAtMost, LeadsTo, PutsEdge, PassesEdge};
 ghost use Rattle.auto_core.specs.Machine.{Letter, Accepts};
 ghost use Rattle.auto_core.specs.Splits.{IsConcatenation};
-ghost use Rattle.auto_core.specs.declared.labels.Literal.{Literal};
 ghost use Rattle.automata_product.specs.declared.side.Side.TheVariants.{Left, Right};
-ghost use Rattle.automata_product.specs.Edges.{LeadsTo, PutsEdge};
 ghost use Rattle.automata_product.specs.Same.{same_side};
 ghost use Rattle.automata_product.specs.Sides.{OfSides};
 ghost use Rattle.sere_automata.specs.Concat.{concat_machine, concat_edges};
 
+use crate::laws::the_concatenation_accepts_one_list_after_the_other;
 use auto_core::{Auto, Label};
-use automata_product::Side;
+use automata_product::{Side, either_label, either_target};
 use std::alloc::AllocError;
 
 /// Accepts the lists that `left` accepts followed by those that `right` accepts.
@@ -25,8 +26,17 @@ impl<A: Auto, B: Auto> Concat<A, B> {
     /// The one automaton after the other.
     pub fn new(left: A, right: B) -> Concat<A, B>
         ensures made { result ≡ record { left = left; right = right } }
-        ensures words { (w : List Letter) → Accepts (⟦<Concat<A, B> as Auto>⟧.machine result) w ↔ IsConcatenation (Accepts (A.machine left)) (Accepts (B.machine right)) w }
+        ensures words { (w : List Letter) →
+            Accepts (⟦<Concat<A, B> as Auto>⟧.machine result) w
+            ↔ IsConcatenation (Accepts (A.machine left)) (Accepts (B.machine right)) w }
+        ensures few { (i j : ℕ) →
+            HasAtMost (A.own left) (A.machine left) i → HasAtMost (B.own right) (B.machine right) j →
+            HasAtMost (⟦<Concat<A, B> as Auto>⟧.own result) (⟦<Concat<A, B> as Auto>⟧.machine result) (i + j) }
+        ensures fits { (i j : ℕ) → A.fits left → B.fits right →
+            HasAtMost (A.own left) (A.machine left) i → HasAtMost (B.own right) (B.machine right) j →
+            i < 2 ^ 32 → j < 2 ^ 32 → ⟦<Concat<A, B> as Auto>⟧.fits result }
     {
+        the_concatenation_accepts_one_list_after_the_other::<A::State, B::State>();
         Concat { left, right }
     }
 
@@ -48,16 +58,17 @@ impl<A: Auto, B: Auto> Concat<A, B> {
     fn left_target(&self, state: A::State, place: usize) -> Side<A::State, B::State>
         requires fit { ⟦<Concat<A, B> as Auto>⟧.fits self.now }
         requires owned { A.own self.now.left state }
-        requires there { place < length (concat_edges (A.machine self.now.left) (B.machine self.now.right) (Left state)) }
-        ensures edge { LeadsTo (concat_edges (A.machine self.now.left) (B.machine self.now.right) (Left state)) place result }
+        requires there { place < length
+            (concat_edges (A.machine self.now.left) (B.machine self.now.right) (Left state)) }
+        ensures edge {
+            LeadsTo (concat_edges (A.machine self.now.left) (B.machine self.now.right) (Left state)) place result }
         ensures owned { OfSides (A.own self.now.left) (B.own self.now.right) result }
     {
-        let count = self.left.edge_count(state);
-        if place < count {
-            Side::Left(self.left.target(state, place))
-        } else {
+        if self.left.accepts(state) {
             let start = self.right.start();
-            Side::Right(self.right.target(start, place - count))
+            either_target(&self.left, state, &self.right, start, place)
+        } else {
+            Side::Left(self.left.target(state, place))
         }
     }
 
@@ -65,16 +76,21 @@ impl<A: Auto, B: Auto> Concat<A, B> {
     fn left_label(&self, state: A::State, place: usize, onto: &mut Label) -> Result<(), AllocError>
         requires fit { ⟦<Concat<A, B> as Auto>⟧.fits self.now }
         requires owned { A.own self.now.left state }
-        requires there { place < length (concat_edges (A.machine self.now.left) (B.machine self.now.right) (Left state)) }
-        ensures edge { OnOk result (PutsEdge (concat_edges (A.machine self.now.left) (B.machine self.now.right) (Left state)) place onto.old onto.new) }
+        requires there { place < length
+            (concat_edges (A.machine self.now.left) (B.machine self.now.right) (Left state)) }
+        ensures edge { OnOk result
+            (PutsEdge (concat_edges (A.machine self.now.left) (B.machine self.now.right) (Left state)) place
+                onto.old onto.new) }
+        ensures passes { OnOk result
+            (PassesEdge (concat_edges (A.machine self.now.left) (B.machine self.now.right) (Left state)) place
+                onto.old onto.new) }
         ensures kept { (l : Literal) → Contains onto.old l → Contains onto.new l }
     {
-        let count = self.left.edge_count(state);
-        if place < count {
-            self.left.label(state, place, onto)
-        } else {
+        if self.left.accepts(state) {
             let start = self.right.start();
-            self.right.label(start, place - count, onto)
+            either_label(&self.left, state, &self.right, start, place, onto)
+        } else {
+            self.left.label(state, place, onto)
         }
     }
 }
@@ -86,7 +102,8 @@ impl<A: Auto, B: Auto> Auto for Concat<A, B> {
 
     ghost own = { λ s. OfSides (A.own s.left) (B.own s.right) };
 
-    ghost fits = { λ s. A.fits s.left × B.fits s.right × ((p : A.State) → A.own s.left p → length ((concat_machine (A.machine s.left) (B.machine s.right)).edges (Left p)) < 2 ^ 64) };
+    ghost fits = { λ s. A.fits s.left × B.fits s.right × ((p : A.State) →
+        A.own s.left p → length ((concat_machine (A.machine s.left) (B.machine s.right)).edges (Left p)) < 2 ^ 64) };
 
     fn start(&self) -> Side<A::State, B::State> {
         Side::Left(self.left.start())
@@ -125,5 +142,7 @@ impl<A: Auto, B: Auto> Auto for Concat<A, B> {
         }
     }
 
-    ghost same = { same_side _ A.State.eq B.State.eq (λ p q. refl) (λ p q. refl) (λ p q. refl) (λ p q. refl) A.same B.same };
+    ghost same = { same_side A.same B.same (record {
+        left = λ p q. refl; right = λ p q. refl; left_right = λ p q. refl; right_left = λ p q. refl;
+    }) };
 }

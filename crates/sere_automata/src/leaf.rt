@@ -1,6 +1,7 @@
 //! The automaton of one step.
 
 ghost use Rattle.std.specs.Prelude.{◌≡◌, ◌↔◌, List, [], ◌∷◌, refl};
+ghost use Rattle.auto_core.specs.Edges.{HasAtMost};
 ghost use Rattle.auto_core.specs.Machine.{Letter, Passes, Accepts};
 ghost use Rattle.sere_automata.specs.Leaf.{leaf_machine};
 ghost use Rattle.sere_automata.specs.Same.{same_leaf};
@@ -19,7 +20,9 @@ impl Leaf {
     /// The automaton of one step with this label.
     pub fn new(label: Label) -> Leaf
         ensures made { result ≡ record { label = label } }
-        ensures words { (w : List Letter) → Accepts (⟦<Leaf as Auto>⟧.machine result) w ↔ ((a : Letter) × (w ≡ a ∷ []) × Passes label a) }
+        ensures words { (w : List Letter) →
+            Accepts (⟦<Leaf as Auto>⟧.machine result) w ↔ ((a : Letter) × (w ≡ a ∷ []) × Passes label a) }
+        ensures few { HasAtMost (⟦<Leaf as Auto>⟧.own result) (⟦<Leaf as Auto>⟧.machine result) 1 }
     {
         Leaf { label }
     }

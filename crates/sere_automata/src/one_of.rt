@@ -1,16 +1,18 @@
 //! One of two automata.
 
-ghost use Rattle.std.specs.Prelude.{◌≡◌, ◌<◌, ◌^◌, ◌↔◌, ◌⊎◌, List, length, Contains, OnOk, refl};
-ghost use Rattle.auto_core.specs.Machine.{Letter, Accepts};
+ghost use Rattle.std.specs.Prelude.{◌≡◌, ◌<◌, ◌+◌, ◌^◌, ◌↔◌, ◌⊎◌, ℕ, List, length, Contains, OnOk, refl};
 ghost use Rattle.auto_core.specs.declared.labels.Literal.{Literal};
-ghost use Rattle.automata_product.specs.Edges.{LeadsTo, PutsEdge};
+ghost use Rattle.auto_core.specs.Edges.{HasAtMost, LeadsTo, PutsEdge, PassesEdge};
+ghost use Rattle.auto_core.specs.Machine.{Letter, Accepts};
 ghost use Rattle.sere_automata.specs.declared.states.Choice.TheVariants.{New};
 ghost use Rattle.sere_automata.specs.OneOf.{one_of_machine, one_of_edges};
 ghost use Rattle.sere_automata.specs.Same.{same_choice};
 ghost use Rattle.sere_automata.specs.States.{OfChoice};
 
+use crate::laws::the_choice_accepts_what_either_accepts;
 use crate::states::Choice;
 use auto_core::{Auto, Label};
+use automata_product::{Side, either_label, either_target};
 use std::alloc::AllocError;
 
 /// Accepts the lists that one of the two parts accepts.
@@ -24,8 +26,17 @@ impl<A: Auto, B: Auto> OneOf<A, B> {
     /// The choice between the two automata.
     pub fn new(left: A, right: B) -> OneOf<A, B>
         ensures made { result ≡ record { left = left; right = right } }
-        ensures words { (w : List Letter) → Accepts (⟦<OneOf<A, B> as Auto>⟧.machine result) w ↔ (Accepts (A.machine left) w ⊎ Accepts (B.machine right) w) }
+        ensures words { (w : List Letter) →
+            Accepts (⟦<OneOf<A, B> as Auto>⟧.machine result) w
+                ↔ (Accepts (A.machine left) w ⊎ Accepts (B.machine right) w) }
+        ensures few { (i j : ℕ) →
+            HasAtMost (A.own left) (A.machine left) i → HasAtMost (B.own right) (B.machine right) j →
+            HasAtMost (⟦<OneOf<A, B> as Auto>⟧.own result) (⟦<OneOf<A, B> as Auto>⟧.machine result) (i + j) }
+        ensures fits { (i j : ℕ) → A.fits left → B.fits right →
+            HasAtMost (A.own left) (A.machine left) i → HasAtMost (B.own right) (B.machine right) j →
+            i < 2 ^ 32 → j < 2 ^ 32 → ⟦<OneOf<A, B> as Auto>⟧.fits result }
     {
+        the_choice_accepts_what_either_accepts::<A::State, B::State>();
         OneOf { left, right }
     }
 
@@ -37,12 +48,10 @@ impl<A: Auto, B: Auto> OneOf<A, B> {
         ensures owned { OfChoice (A.own self.now.left) (B.own self.now.right) result }
     {
         let start = self.left.start();
-        let count = self.left.edge_count(start);
-        if place < count {
-            Choice::Left(self.left.target(start, place))
-        } else {
-            let other = self.right.start();
-            Choice::Right(self.right.target(other, place - count))
+        let other = self.right.start();
+        match either_target(&self.left, start, &self.right, other, place) {
+            Side::Left(p) => Choice::Left(p),
+            Side::Right(q) => Choice::Right(q),
         }
     }
 
@@ -50,17 +59,16 @@ impl<A: Auto, B: Auto> OneOf<A, B> {
     fn first_label(&self, place: usize, onto: &mut Label) -> Result<(), AllocError>
         requires fit { ⟦<OneOf<A, B> as Auto>⟧.fits self.now }
         requires there { place < length (one_of_edges (A.machine self.now.left) (B.machine self.now.right) New) }
-        ensures edge { OnOk result (PutsEdge (one_of_edges (A.machine self.now.left) (B.machine self.now.right) New) place onto.old onto.new) }
+        ensures edge { OnOk result
+            (PutsEdge (one_of_edges (A.machine self.now.left) (B.machine self.now.right) New) place onto.old onto.new) }
+        ensures passes { OnOk result
+            (PassesEdge (one_of_edges (A.machine self.now.left) (B.machine self.now.right) New) place onto.old
+                onto.new) }
         ensures kept { (l : Literal) → Contains onto.old l → Contains onto.new l }
     {
         let start = self.left.start();
-        let count = self.left.edge_count(start);
-        if place < count {
-            self.left.label(start, place, onto)
-        } else {
-            let other = self.right.start();
-            self.right.label(other, place - count, onto)
-        }
+        let other = self.right.start();
+        either_label(&self.left, start, &self.right, other, place, onto)
     }
 }
 
@@ -71,7 +79,8 @@ impl<A: Auto, B: Auto> Auto for OneOf<A, B> {
 
     ghost own = { λ s. OfChoice (A.own s.left) (B.own s.right) };
 
-    ghost fits = { λ s. A.fits s.left × B.fits s.right × (length ((one_of_machine (A.machine s.left) (B.machine s.right)).edges New) < 2 ^ 64) };
+    ghost fits = { λ s. A.fits s.left × B.fits s.right
+        × (length ((one_of_machine (A.machine s.left) (B.machine s.right)).edges New) < 2 ^ 64) };
 
     fn start(&self) -> Choice<A::State, B::State> {
         Choice::New
@@ -122,5 +131,9 @@ impl<A: Auto, B: Auto> Auto for OneOf<A, B> {
         }
     }
 
-    ghost same = { same_choice A.State.eq A.same B.State.eq B.same _ (λ p. refl) (λ q. refl) (λ p. refl) (λ p q. refl) (λ p q. refl) (λ q. refl) (λ q p. refl) (λ p q. refl) };
+    ghost same = { same_choice A.same B.same (record {
+        left = λ p q. refl; right = λ p q. refl;
+        new_left = λ p. refl; new_right = λ q. refl; left_new = λ p. refl; right_new = λ q. refl;
+        left_right = λ p q. refl; right_left = λ q p. refl;
+    }) };
 }

@@ -1,17 +1,19 @@
 //! An automaton any number of times.
 
-ghost use Rattle.std.specs.Prelude.{◌≡◌, ◌≢◌, ◌<◌, ◌^◌, ◌↔◌, ◌⊎◌, List, [], ◌++◌, length, Contains, OnOk, refl};
+ghost use Rattle.std.specs.Prelude.{◌≡◌, ◌≢◌, ◌<◌, ◌+◌, ◌^◌, ◌↔◌, ◌⊎◌, ℕ, List, [], ◌++◌, length, Contains, OnOk, refl};
+ghost use Rattle.auto_core.specs.declared.labels.Literal.{Literal};
+ghost use Rattle.auto_core.specs.Edges.{HasAtMost, LeadsTo, PutsEdge, PassesEdge};
 ghost use Rattle.auto_core.specs.Machine.{Letter, Accepts};
 ghost use Rattle.auto_core.specs.Splits.{IsRepetition};
-ghost use Rattle.auto_core.specs.declared.labels.Literal.{Literal};
-ghost use Rattle.automata_product.specs.Edges.{LeadsTo, PutsEdge};
 ghost use Rattle.sere_automata.specs.declared.states.Round.TheVariants.{Inner};
 ghost use Rattle.sere_automata.specs.Repeat.{repeat_machine, repeat_edges};
 ghost use Rattle.sere_automata.specs.Same.{same_round};
 ghost use Rattle.sere_automata.specs.States.{OfRound};
 
+use crate::laws::the_repetition_accepts_any_number_of_lists;
 use crate::states::Round;
 use auto_core::{Auto, Label};
+use automata_product::{Side, either_label, either_target};
 use std::alloc::AllocError;
 
 /// Accepts the lists that are joined from finitely many lists, or none, each accepted by the part.
@@ -24,9 +26,18 @@ impl<A: Auto> Repeat<A> {
     /// The automaton any number of times.
     pub fn new(inner: A) -> Repeat<A>
         ensures made { result ≡ record { inner = inner } }
-        ensures words { (w : List Letter) → Accepts (⟦<Repeat<A> as Auto>⟧.machine result) w ↔ IsRepetition (Accepts (A.machine inner)) w }
-        ensures unrolled { (w : List Letter) → Accepts (⟦<Repeat<A> as Auto>⟧.machine result) w ↔ ((w ≡ []) ⊎ ((u : List Letter) × (v : List Letter) × (w ≡ u ++ v) × (u ≢ []) × Accepts (A.machine inner) u × Accepts (⟦<Repeat<A> as Auto>⟧.machine result) v)) }
+        ensures words { (w : List Letter) →
+            Accepts (⟦<Repeat<A> as Auto>⟧.machine result) w ↔ IsRepetition (Accepts (A.machine inner)) w }
+        ensures unrolled { (w : List Letter) →
+            Accepts (⟦<Repeat<A> as Auto>⟧.machine result) w
+            ↔ ((w ≡ []) ⊎ ((u : List Letter) × (v : List Letter) × (w ≡ u ++ v) × (u ≢ [])
+                × Accepts (A.machine inner) u × Accepts (⟦<Repeat<A> as Auto>⟧.machine result) v)) }
+        ensures few { (i : ℕ) → HasAtMost (A.own inner) (A.machine inner) i →
+            HasAtMost (⟦<Repeat<A> as Auto>⟧.own result) (⟦<Repeat<A> as Auto>⟧.machine result) (i + i) }
+        ensures fits { (i : ℕ) → A.fits inner → HasAtMost (A.own inner) (A.machine inner) i →
+            i < 2 ^ 32 → ⟦<Repeat<A> as Auto>⟧.fits result }
     {
+        the_repetition_accepts_any_number_of_lists::<A::State>();
         Repeat { inner }
     }
 
@@ -52,12 +63,14 @@ impl<A: Auto> Repeat<A> {
         ensures edge { LeadsTo (repeat_edges (A.machine self.now.inner) (Inner state)) place (Inner result) }
         ensures owned { A.own self.now.inner result }
     {
-        let count = self.inner.edge_count(state);
-        if place < count {
-            self.inner.target(state, place)
-        } else {
+        if self.inner.accepts(state) {
             let start = self.inner.start();
-            self.inner.target(start, place - count)
+            match either_target(&self.inner, state, &self.inner, start, place) {
+                Side::Left(p) => p,
+                Side::Right(q) => q,
+            }
+        } else {
+            self.inner.target(state, place)
         }
     }
 
@@ -66,15 +79,17 @@ impl<A: Auto> Repeat<A> {
         requires fit { ⟦<Repeat<A> as Auto>⟧.fits self.now }
         requires owned { A.own self.now.inner state }
         requires there { place < length (repeat_edges (A.machine self.now.inner) (Inner state)) }
-        ensures edge { OnOk result (PutsEdge (repeat_edges (A.machine self.now.inner) (Inner state)) place onto.old onto.new) }
+        ensures edge { OnOk result
+            (PutsEdge (repeat_edges (A.machine self.now.inner) (Inner state)) place onto.old onto.new) }
+        ensures passes { OnOk result
+            (PassesEdge (repeat_edges (A.machine self.now.inner) (Inner state)) place onto.old onto.new) }
         ensures kept { (l : Literal) → Contains onto.old l → Contains onto.new l }
     {
-        let count = self.inner.edge_count(state);
-        if place < count {
-            self.inner.label(state, place, onto)
-        } else {
+        if self.inner.accepts(state) {
             let start = self.inner.start();
-            self.inner.label(start, place - count, onto)
+            either_label(&self.inner, state, &self.inner, start, place, onto)
+        } else {
+            self.inner.label(state, place, onto)
         }
     }
 }
@@ -86,7 +101,8 @@ impl<A: Auto> Auto for Repeat<A> {
 
     ghost own = { λ s. OfRound (A.own s.inner) };
 
-    ghost fits = { λ s. A.fits s.inner × ((p : A.State) → A.own s.inner p → length ((repeat_machine (A.machine s.inner)).edges (Inner p)) < 2 ^ 64) };
+    ghost fits = { λ s. A.fits s.inner × ((p : A.State) →
+        A.own s.inner p → length ((repeat_machine (A.machine s.inner)).edges (Inner p)) < 2 ^ 64) };
 
     fn start(&self) -> Round<A::State> {
         Round::New
@@ -125,5 +141,7 @@ impl<A: Auto> Auto for Repeat<A> {
         }
     }
 
-    ghost same = { same_round A.State.eq A.same _ (λ q. refl) (λ p. refl) (λ p q. refl) };
+    ghost same = { same_round A.same (record {
+        inner = λ p q. refl; new_inner = λ q. refl; inner_new = λ p. refl;
+    }) };
 }

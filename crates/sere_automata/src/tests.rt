@@ -1,6 +1,8 @@
 //! That the calls succeed with ample memory, small tables by their numbers, and one long chain for its time.
 
-ghost use Rattle.std.specs.Prelude.{◌≡◌, ◌<◌, ◌↔◌, List, length};
+ghost use Rattle.std.specs.Prelude.{◌≡◌, ◌<◌, ◌↔◌, List, [], length, IsTrue};
+ghost use Rattle.auto_core.specs.Edges.{HasAtMost};
+ghost use Rattle.auto_core.specs.Graph.{graph_machine};
 ghost use Rattle.auto_core.specs.Machine.{Letter, Accepts};
 ghost use Rattle.auto_core.specs.Splits.{IsConcatenation, IsFusion};
 
@@ -8,7 +10,6 @@ use super::*;
 use auto_core::{Auto, Label, Literal, Table, TableError, alive, materialise};
 use automata_product::{Both, Fuse};
 use std::alloc::{AllocError, Global};
-use std::process::Abort;
 use std::test::Fail;
 
 // What three symbols are in a cycle; none is a top.
@@ -62,17 +63,56 @@ fn accepts_from(table: &Table, state: u32, letters: &[Shown]) -> bool
 
 // The words of a composed automaton, by the clauses of the constructors alone.
 fn composed(a: Leaf, b: Leaf, c: Leaf, d: Leaf) -> Both<Fuse<Leaf, Leaf>, Concat<Leaf, Leaf>>
-    ensures { (w : List Letter) → Accepts (⟦<Both<Fuse<Leaf, Leaf>, Concat<Leaf, Leaf>> as Auto>⟧.machine result) w ↔ (IsFusion (Accepts (⟦<Leaf as Auto>⟧.machine a)) (Accepts (⟦<Leaf as Auto>⟧.machine b)) w × IsConcatenation (Accepts (⟦<Leaf as Auto>⟧.machine c)) (Accepts (⟦<Leaf as Auto>⟧.machine d)) w) }
+    ensures { (w : List Letter) →
+        Accepts (⟦<Both<Fuse<Leaf, Leaf>, Concat<Leaf, Leaf>> as Auto>⟧.machine result) w
+        ↔ (IsFusion (Accepts (⟦<Leaf as Auto>⟧.machine a)) (Accepts (⟦<Leaf as Auto>⟧.machine b)) w
+            × IsConcatenation (Accepts (⟦<Leaf as Auto>⟧.machine c)) (Accepts (⟦<Leaf as Auto>⟧.machine d)) w) }
 {
     Both::new(Fuse::new(a, b), Concat::new(c, d))
 }
 
-fn composed_table(alloc: Global, a: Leaf, b: Leaf, c: Leaf, d: Leaf) -> Result<Table, TableError> {
-    materialise(alloc, &composed(a, b, c, d), 20)
+// Whether both tables have few edges; then what is made of them fits.
+fn are_small(left: &Table, right: &Table) -> bool
+    ensures left { IsTrue result → HasAtMost (⟦<Table as Auto>⟧.own left.now) (graph_machine left.now) 10000 }
+    ensures right { IsTrue result → HasAtMost (⟦<Table as Auto>⟧.own right.now) (graph_machine right.now) 10000 }
+{
+    left.edges().len() <= 10000 && right.edges().len() <= 10000
 }
 
-fn one_again_and_again(alloc: Global, left: Leaf, right: Leaf) -> Result<Table, TableError> {
-    materialise(alloc, &Repeat::new(OneOf::new(left, right)), 20)
+// The tables of both, of the overlaps in one letter, of one after the other, of either, and of any number.
+fn together(alloc: Global, left: &Table, right: &Table) -> Result<Table, TableError> {
+    if !are_small(left, right) {
+        return Err(TableError::TooMany);
+    }
+    materialise(alloc, &Both::new(left, right), 2000)
+}
+
+fn overlapped(alloc: Global, left: &Table, right: &Table) -> Result<Table, TableError> {
+    if !are_small(left, right) {
+        return Err(TableError::TooMany);
+    }
+    materialise(alloc, &Fuse::new(left, right), 2000)
+}
+
+fn followed(alloc: Global, left: &Table, right: &Table) -> Result<Table, TableError> {
+    if !are_small(left, right) {
+        return Err(TableError::TooMany);
+    }
+    materialise(alloc, &Concat::new(left, right), 2000)
+}
+
+fn either(alloc: Global, left: &Table, right: &Table) -> Result<Table, TableError> {
+    if !are_small(left, right) {
+        return Err(TableError::TooMany);
+    }
+    materialise(alloc, &OneOf::new(left, right), 2000)
+}
+
+fn again_and_again(alloc: Global, inner: &Table) -> Result<Table, TableError> {
+    if !are_small(inner, inner) {
+        return Err(TableError::TooMany);
+    }
+    materialise(alloc, &Repeat::new(inner), 2000)
 }
 
 fn leaf_table(alloc: Global, literals: &[Literal]) -> Result<Table, Fail> {
@@ -80,24 +120,8 @@ fn leaf_table(alloc: Global, literals: &[Literal]) -> Result<Table, Fail> {
     Ok(materialise(alloc, &leaf, 2)?)
 }
 
-fn followed(alloc: Global, left: Table, right: Leaf) -> Result<Table, TableError>
-    requires { length left.edges < 10000 }
-{
-    materialise(alloc, &Concat::new(left, right), 2000)
-}
-
-fn overlapped(alloc: Global, left: Table, right: Table) -> Result<Table, TableError>
-    requires left { length left.edges < 10000 }
-    requires right { length right.edges < 10000 }
-{
-    materialise(alloc, &Fuse::new(left, right), 2000)
-}
-
-fn together(alloc: Global, left: Table, right: Table) -> Result<Table, TableError>
-    requires left { length left.edges < 10000 }
-    requires right { length right.edges < 10000 }
-{
-    materialise(alloc, &Both::new(left, right), 2000)
+fn symbol_table(alloc: Global, symbol: usize) -> Result<Table, Fail> {
+    leaf_table(alloc, &[literal(symbol, true)])
 }
 
 fn are_all_alive(alloc: Global, table: &Table) -> Result<bool, AllocError> {
@@ -115,18 +139,18 @@ fn literal(symbol: usize, positive: bool) -> Literal {
 }
 
 // Two steps, each with one symbol.
-fn two_steps(rt: &impl Abort, alloc: Global, first: usize, second: usize) -> Result<Table, Fail> {
-    let table = leaf_table(alloc, &[literal(first, true)])?;
-    assert!(rt; table.edges().len() < 10000);
-    Ok(followed(alloc, table, leaf(alloc, second)?)?)
+fn two_steps(alloc: Global, first: usize, second: usize) -> Result<Table, Fail> {
+    Ok(followed(
+        alloc,
+        &symbol_table(alloc, first)?,
+        &symbol_table(alloc, second)?,
+    )?)
 }
 
 #[test]
 fn a_step_that_nothing_passes_is_alive(rt: HostRuntime) -> Result<(), Fail> {
-    let table = leaf_table(rt.alloc(), &[literal(0, true)])?;
-    assert!(rt; table.edges().len() < 10000);
-    let never = Leaf::new(label_of(rt.alloc(), &[literal(1, true), literal(1, false)])?);
-    let table = followed(rt.alloc(), table, never)?;
+    let never = leaf_table(rt.alloc(), &[literal(1, true), literal(1, false)])?;
+    let table = followed(rt.alloc(), &symbol_table(rt.alloc(), 0)?, &never)?;
     assert_eq!(rt; table.states(), 3);
     assert!(rt; are_all_alive(rt.alloc(), &table)?);
     Ok(())
@@ -134,10 +158,8 @@ fn a_step_that_nothing_passes_is_alive(rt: HostRuntime) -> Result<(), Fail> {
 
 #[test]
 fn a_fusion_overlaps_in_one_letter(rt: HostRuntime) -> Result<(), Fail> {
-    let left = two_steps(&rt, rt.alloc(), 0, 1)?;
-    let right = two_steps(&rt, rt.alloc(), 1, 2)?;
-    assert!(rt; left.edges().len() < 10000 && right.edges().len() < 10000);
-    let table = overlapped(rt.alloc(), left, right)?;
+    let alloc = rt.alloc();
+    let table = overlapped(alloc, &two_steps(alloc, 0, 1)?, &two_steps(alloc, 1, 2)?)?;
     let a = Some([true, false, false]);
     let b = Some([false, true, false]);
     let c = Some([false, false, true]);
@@ -154,8 +176,7 @@ fn a_fusion_overlaps_in_one_letter(rt: HostRuntime) -> Result<(), Fail> {
 fn opposite_signs_pass_a_top_alone(rt: HostRuntime) -> Result<(), Fail> {
     let left = leaf_table(rt.alloc(), &[literal(0, true)])?;
     let right = leaf_table(rt.alloc(), &[literal(0, false)])?;
-    assert!(rt; left.edges().len() < 10000 && right.edges().len() < 10000);
-    let table = together(rt.alloc(), left, right)?;
+    let table = together(rt.alloc(), &left, &right)?;
     let start = table.start();
     assert!(rt; accepts_from(&table, start, &[None]));
     assert!(rt; !accepts_from(&table, start, &[Some([true, false, false])]));
@@ -165,13 +186,13 @@ fn opposite_signs_pass_a_top_alone(rt: HostRuntime) -> Result<(), Fail> {
 
 #[test]
 fn a_long_chain_has_a_state_more_than_edges(rt: HostRuntime) -> Result<(), Fail> {
-    let mut table = leaf_table(rt.alloc(), &[literal(0, true)])?;
-    for step in 1..1000 {
-        assert!(rt; table.edges().len() < 10000);
-        table = followed(rt.alloc(), table, leaf(rt.alloc(), step % 3)?)?;
+    let mut table = materialise(rt.alloc(), &Empty::new(), 1)?;
+    assert_eq!(rt; table.states(), 1);
+    for step in 0..300 {
+        table = followed(rt.alloc(), &table, &symbol_table(rt.alloc(), step % 3)?)?;
     }
-    assert_eq!(rt; table.states(), 1001);
-    assert_eq!(rt; table.edges().len(), 1000);
+    assert_eq!(rt; table.states(), 301);
+    assert_eq!(rt; table.edges().len(), 300);
     assert!(rt; are_all_alive(rt.alloc(), &table)?);
     Ok(())
 }
@@ -179,7 +200,8 @@ fn a_long_chain_has_a_state_more_than_edges(rt: HostRuntime) -> Result<(), Fail>
 #[test]
 fn a_repeated_choice_takes_either_each_time(rt: HostRuntime) -> Result<(), Fail> {
     let alloc = rt.alloc();
-    let table = one_again_and_again(alloc, leaf(alloc, 0)?, leaf(alloc, 1)?)?;
+    let choice = either(alloc, &symbol_table(alloc, 0)?, &symbol_table(alloc, 1)?)?;
+    let table = again_and_again(alloc, &choice)?;
     let a = Some([true, false, false]);
     let b = Some([false, true, false]);
     let c = Some([false, false, true]);
@@ -192,17 +214,14 @@ fn a_repeated_choice_takes_either_each_time(rt: HostRuntime) -> Result<(), Fail>
 }
 
 #[test]
-fn one_letter_and_two_letters_have_no_list_in_common(rt: HostRuntime) -> Result<(), Fail> {
+fn many_overlaps_take_time_by_the_edges(rt: HostRuntime) -> Result<(), Fail> {
     let alloc = rt.alloc();
-    let table = composed_table(
-        alloc,
-        leaf(alloc, 0)?,
-        leaf(alloc, 1)?,
-        leaf(alloc, 0)?,
-        leaf(alloc, 1)?,
-    )?;
-    let start = table.start();
-    assert!(rt; !accepts_from(&table, start, &[None]));
-    assert!(rt; !accepts_from(&table, start, &[None, None]));
+    let mut left = symbol_table(alloc, 0)?;
+    for symbol in 1..300 {
+        left = either(alloc, &left, &symbol_table(alloc, symbol)?)?;
+    }
+    let right = either(alloc, &symbol_table(alloc, 0)?, &symbol_table(alloc, 1)?)?;
+    let table = overlapped(alloc, &left, &right)?;
+    assert_eq!(rt; table.edges().len(), 900);
     Ok(())
 }

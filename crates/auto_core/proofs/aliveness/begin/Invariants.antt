@@ -1,6 +1,6 @@
 use Rattle.std.proofs.Common.{◌≡◌, ℕ, ◌<◌, take}
-use Rattle.auto_core.specs.Among.{Among}
-use Rattle.auto_core.specs.Searching.{IsMarked}
+use Rattle.auto_core.specs.inner.Among.{Among}
+use Rattle.auto_core.specs.inner.Searching.{IsMarked}
 use Rattle.auto_core.proofs.aliveness.begin.Given as goal
 
 abbrev pub invariant-loop-state : goal.invariant-loop-state

@@ -1,5 +1,5 @@
 use Rattle.std.proofs.Common.{◌≡◌, map, take, length, vec_items}
-use Rattle.auto_core.specs.Searching.{HasSources}
+use Rattle.auto_core.specs.inner.Searching.{HasSources}
 use Rattle.auto_core.proofs.aliveness.sources_of.Given as goal
 
 abbrev pub invariant-loop-edge : goal.invariant-loop-edge

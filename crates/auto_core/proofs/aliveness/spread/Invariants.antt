@@ -1,5 +1,5 @@
 use Rattle.std.proofs.Common.{◌+◌, length, count_by, not}
-use Rattle.auto_core.specs.Searching.{IsSearch}
+use Rattle.auto_core.specs.inner.Searching.{IsSearch}
 use Rattle.auto_core.proofs.aliveness.spread.Given as goal
 
 abbrev pub invariant-loop-state : goal.invariant-loop-state

@@ -11,11 +11,13 @@ decides : (g : Over) (x y : g.row.A-State.Denot) → Decides (g.A.State.PartialE
 decides g = decides_by g.A.State.PartialEq.eq g.met.A.State.Eq.laws g.met.A.Auto.same
 
 pub explore-requires-clause-begun : goal.explore-requires-clause-begun
-explore-requires-clause-begun g c = start_seen _ (decides g) _ _ _ c.args.seen.now.states.keys _ _ c.start.result c.requires.no_states c.requires.no_edges c.start.ensures.value c.start.ensures.owned
+explore-requires-clause-begun g c = start_seen _ (decides g) _ _ _ c.args.seen.now.states.keys _ _ c.start.result
+    c.requires.no_states c.requires.no_edges c.start.ensures.value c.start.ensures.owned
     c.in_ok-number.ensures.room c.in_ok-number.ensures.named
 
 pub returns-in_err-number-clause-too_many : goal.returns-in_err-number-clause-too_many
 returns-in_err-number-clause-too_many g c h =
     let p = err_from_is_err_and c.from_residual.result c.from_residual.ensures.1 in
     let q : c.number.result ≡ Err TooMany = cc (c.in_err-number.was, p.1, p.2) in
-    start_too_many _ (decides g) (g.A.Auto.own c.args.automaton.now) _ _ c.args.seen.now.states.keys c.start.result c.requires.no_states (c.number.ensures.full q)
+    start_too_many _ (decides g) (g.A.Auto.own c.args.automaton.now) _ _ c.args.seen.now.states.keys c.start.result
+        c.requires.no_states (c.number.ensures.full q)

@@ -1,9 +1,7 @@
-use Rattle.std.proofs.Common.{◌<◌, length}
-use Rattle.sere_automata.proofs.Small.{fuse_small}
+use Rattle.std.proofs.Common.{refl, arith}
 use Rattle.sere_automata.proofs.tests.overlapped.Goals as goal
 
 pub materialise-requires : goal.materialise-requires
 materialise-requires c =
-    let small : length c.new.result.left.edges < 10000 = rw c.new.ensures.made c.requires.left in
-    let narrow : length c.new.result.right.edges < 10000 = rw c.new.ensures.made c.requires.right in
-    (tt, tt, λ p own. fuse_small c.new.result.left c.new.result.right small narrow p)
+    c.new.ensures.fits 10000 10000 tt tt (c.if-not-are_small.ensures.left refl) (c.if-not-are_small.ensures.right refl)
+    (omega arith) (omega arith)

@@ -1,7 +1,7 @@
 use Rattle.std.proofs.lemmas.Result.{on_ok_weaker}
-use Rattle.automata_product.specs.Edges.{products}
+use Rattle.auto_core.specs.Edges.{products}
 use Rattle.automata_product.proofs.Places.{place_within}
-use Rattle.automata_product.proofs.Put.{puts-split, passes-on_ok}
+use Rattle.automata_product.proofs.Put.{puts-split, passes-puts}
 use Rattle.automata_product.proofs.both.BothAuto.label.Goals as goal
 
 pub nonzero_div-place : goal.nonzero_div-place
@@ -36,13 +36,16 @@ returns-clause-edge g c =
     on_ok_weaker c.label-2.result
     (puts-split (λ p q. (p, q)) ((g.A.Auto.machine c.args.self.now.left).edges c.args.state.0)
     ((g.B.Auto.machine c.args.self.now.right).edges c.args.state.1)
+    c.a_union_has_the_literals_of_both.ensures.ordered c.a_union_has_the_literals_of_both.ensures.joined
     c.args.place c.edge_count-count.result c.args.onto.now c.label.new.onto c.label-2.new.onto
     c.edge_count-count.ensures within.0 c.in_ok-label.ensures.edge)
     c.label-2.ensures.edge
 
 pub returns-clause-passes : goal.returns-clause-passes
 returns-clause-passes g c =
-    passes-on_ok c.label-2.result
+    on_ok_weaker c.label-2.result
+    (passes-puts c.a_union_has_the_literals_of_both.ensures.passes
     (products (λ p q. (p, q)) ((g.A.Auto.machine c.args.self.now.left).edges c.args.state.0)
     ((g.B.Auto.machine c.args.self.now.right).edges c.args.state.1))
-    c.args.place c.args.onto.now c.label-2.new.onto (returns-clause-edge g c)
+    c.args.place c.args.onto.now c.label-2.new.onto)
+    (returns-clause-edge g c)
