@@ -1,0 +1,56 @@
+-- Where the tokens of a text stand, and which bytes they have.
+use Rattle.std.proofs.Common.{subst, ◌≡◌, ◌≤◌, ℕ, ◌+◌, ◌-◌, ◌<◌, ◌∙◌, sym, ap, List, [], ◌∷◌, take, drop, length}
+use Rattle.std.proofs.Common.{arith, All, length-drop}
+use Rattle.std.proofs.lemmas.List.{drop-drop}
+use Rattle.std.proofs.lemmas.List.Elements.{All-nil, All-cons}
+use Rattle.psl_lexer.specs.Shapes.{IsToken}
+use Rattle.psl_lexer.specs.Splits.{Splits, ends, gap, token}
+use Rattle.psl_lexer.specs.Order.{StandInRow, IsSpelled}
+use Rattle.psl_lexer.specs.declared.kinds.Kind.{Kind}
+use Rattle.psl_lexer.specs.declared.kinds.Token.{Token}
+use Rattle.psl_lexer.proofs.Gaps.{gap_fits, lexeme_some}
+
+from_earlier : (early late : ℕ) (tokens : List Token) (to : ℕ) → early ≤ late → StandInRow late tokens to
+    → StandInRow early tokens to
+from_earlier early late [] to h row = omega arith
+from_earlier early late (t ∷ tokens) to h row = let first : late ≤ t.start = row.0 in (omega arith, row.1, row.2)
+
+-- what is left behind the first bytes ends where all ends
+same_end : (offset count : ℕ) (bytes : List ℕ) → count ≤ length bytes
+    → offset + count + length (drop count bytes) ≡ offset + length bytes
+same_end offset count bytes h = omega (arith, length-drop count bytes)
+
+pub stand : (offset : ℕ) (bytes : List ℕ) (tokens : List Token) → Splits offset bytes tokens
+    → StandInRow offset tokens (offset + length bytes)
+stand offset bytes tokens ends = omega arith
+stand offset bytes tokens (gap n g s) =
+    let fits : (0 < n) × (n ≤ length bytes) = gap_fits bytes n g in
+    let P : ℕ → Type 0 = λ (end : ℕ). StandInRow (offset + n) tokens end in
+    from_earlier offset (offset + n) tokens (offset + length bytes) (omega arith)
+    (subst P (same_end offset n bytes fits.1) (stand (offset + n) (drop n bytes) tokens s))
+stand offset bytes tokens (token {tokens = rest} n k t is s) =
+    let some : 0 < n = lexeme_some bytes n t.longest.is_lexeme in
+    let P : ℕ → Type 0 = λ (end : ℕ). StandInRow (offset + n) rest end in
+    (omega arith, omega arith, subst P (same_end offset n bytes t.longest.within) (stand (offset + n) (drop n
+    bytes) rest s))
+
+-- the bytes from one place up to another
+spelled_here : (text bytes : List ℕ) (offset n : ℕ) (k : Kind) → bytes ≡ drop offset text → IsToken k (take n bytes)
+    → IsSpelled text (record { kind = k; start = offset; end = offset + n })
+spelled_here text bytes offset n k at is =
+    let count : n ≡ offset + n - offset = omega arith in
+    let P : List ℕ → Type 0 = λ (part : List ℕ). IsToken k part in
+    subst P (ap (λ (m : ℕ). take m bytes) count ∙ ap (λ (b : List ℕ). take (offset + n - offset) b) at) is
+
+further : (text bytes : List ℕ) (offset n : ℕ) → bytes ≡ drop offset text → drop n bytes ≡ drop (offset + n) text
+further text bytes offset n at = ap (λ (b : List ℕ). drop n b) at ∙ drop-drop n offset text
+
+pub spelled : (text : List ℕ) (offset : ℕ) (bytes : List ℕ) (tokens : List Token) → bytes ≡ drop offset text
+    → Splits offset bytes tokens → All (IsSpelled text) tokens
+spelled text offset bytes tokens at ends = All-nil (IsSpelled text)
+spelled text offset bytes tokens at (gap n g s) =
+    spelled text (offset + n) (drop n bytes) tokens (further text bytes offset n at) s
+spelled text offset bytes tokens at (token {tokens = rest} n k t is s) =
+    All-cons (IsSpelled text) (record { kind = k; start = offset; end = offset + n }) rest
+    (spelled_here text bytes offset n k at is)
+    (spelled text (offset + n) (drop n bytes) rest (further text bytes offset n at) s)
