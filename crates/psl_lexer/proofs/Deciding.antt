@@ -87,12 +87,15 @@ FixedSearch bytes low high =
 extended : (bytes : List ℕ) (low high : ℕ) → FixedSearch bytes low high
     → (suc high ≤ length bytes → (x : Lexeme) → IsFixed x (take (suc high) bytes) → ⊥)
     → FixedSearch bytes low (suc high)
-extended bytes low high (inl found) here = inl (found.0, record {
-  above = found.1.above;
-  within = found.1.within;
-  is_fixed = found.1.is_fixed;
-  none_longer = one_more bytes found.0.1 high found.1.none_longer here;
-})
+extended bytes low high (inl found) here = inl (
+  found.0,
+  record {
+    above = found.1.above;
+    within = found.1.within;
+    is_fixed = found.1.is_fixed;
+    none_longer = one_more bytes found.0.1 high found.1.none_longer here;
+  },
+)
 extended bytes low high (inr none) here = inr (one_more bytes low high none here)
 
 fixed_search : (bytes : List ℕ) (low extra : ℕ) → FixedSearch bytes low (extra + low)
@@ -104,12 +107,15 @@ fixed_search bytes low (suc extra) =
     let P : ℕ → Type 0 = λ (k : ℕ). FixedSearch bytes low k in
     subst P (sym next) (elim (cases_lt high (length bytes)) [
       | inl within ↦ elim (fixed_or_none (take (suc high) bytes)) [
-        | inl found ↦ inl ((found.0, suc high), record {
+        | inl found ↦ inl (
+          (found.0, suc high),
+          record {
             above = omega arith;
             within = omega arith;
             is_fixed = found.1;
             none_longer = λ more above top within x is. absurd (omega arith);
-          })
+          },
+        )
         | inr none ↦ extended bytes low high before (λ room. none)
       ]
       | inr beyond ↦ extended bytes low high before (λ room. absurd (omega arith))
@@ -129,12 +135,15 @@ unlisted text i no_fixed = elim (member text left_out_words) [
     | inr verilog ↦ elim (cases_Bool (starts_with nat_eq text checker_prefix)) [
       | inl kept ↦ (lexeme.LeftOut, inr (inr (i, kept)))
       | inr free ↦ elim (cases_lt 255 (length text)) [
-        | inl long ↦ (lexeme.NameTooLong, record {
+        | inl long ↦ (
+          lexeme.NameTooLong,
+          record {
             identifier = i;
             long = long;
             not_kept = λ k. both_ways (starts_with nat_eq text checker_prefix) free k.1;
             not_left_out = neither text left verilog;
-          })
+          },
+        )
         | inr short ↦ (lexeme.Token kind.Name, usable text i no_fixed (neither text left verilog) free short)
       ]
     ]
@@ -156,16 +165,23 @@ name_here bytes some first =
     let two : 2 + count ≡ count + 2 = omega arith in
     let P : ℕ → Type 0 = λ (k : ℕ). FixedSearch bytes count k in
     elim (subst P two (fixed_search bytes count 2)) [
-      | inl found ↦ (found.0.0, found.0.1, fixed_longest bytes count (count + 2) (strong_fixed bytes count first refl)
-          (Some found.0) found.1)
+      | inl found ↦ (
+        found.0.0,
+        found.0.1,
+        fixed_longest bytes count (count + 2) (strong_fixed bytes count first refl)
+            (Some found.0) found.1,
+      )
       | inr none ↦
           let name : (x : Lexeme) × Spells x (take count bytes) =
-          named (take count bytes) (name_part bytes count some first refl) in
-          (name.0, count, record {
-            within = prefix_len-le-length continues_name bytes;
-            is_lexeme = name.1;
-            no_more = fixed_none bytes count (count + 2) (strong_fixed bytes count first refl) None none;
-          })
+          named (take count bytes) (name_part bytes count some first refl) in (
+            name.0,
+            count,
+            record {
+              within = prefix_len-le-length continues_name bytes;
+              is_lexeme = name.1;
+              no_more = fixed_none bytes count (count + 2) (strong_fixed bytes count first refl) None none;
+            },
+          )
     ]
 
 number_here : (bytes : List ℕ) → 0 < length bytes → is_digit (slice_index bytes 0) ≡ true → Here bytes
@@ -185,8 +201,12 @@ number_here bytes some first =
       | inl room ↦ elim (cases_eq (slice_index bytes count) 39) [
         | inl quote ↦ elim (cases_Bool (is_base (slice_index bytes (count + 1)))) [
           | inl base ↦ elim (cases_lt 0 digits) [
-            | inl more ↦ (lexeme.Token kind.Sized, count + 2 + digits, sized_longest bytes count digits some first refl
-                room quote base refl (prefix_len-le-length is_base_digit (drop (count + 2) bytes)) more)
+            | inl more ↦ (
+              lexeme.Token kind.Sized,
+              count + 2 + digits,
+              sized_longest bytes count digits some first refl
+                  room quote base refl (prefix_len-le-length is_base_digit (drop (count + 2) bytes)) more,
+            )
             | inr no_digit ↦ plain (λ more within front. let above : count + 2 < more = front.some in
                 let short : more ≤ count + 2 + digits = front.short in omega arith)
           ]
@@ -217,8 +237,12 @@ text_here bytes some first =
 mark_here : (bytes : List ℕ) → begins_name (slice_index bytes 0) ≡ false → is_digit (slice_index bytes 0) ≡ false
     → (slice_index bytes 0 ≡ 34 → ⊥) → Here bytes ⊎ HasNoMore bytes 0
 mark_here bytes name digit quote = elim (fixed_search bytes 0 3) [
-  | inl found ↦ inl (found.0.0, found.0.1, fixed_longest bytes 0 3 (mark_fixed bytes name digit quote) (Some found.0)
-      found.1)
+  | inl found ↦ inl (
+    found.0.0,
+    found.0.1,
+    fixed_longest bytes 0 3 (mark_fixed bytes name digit quote) (Some found.0)
+        found.1,
+  )
   | inr none ↦ inr (fixed_none bytes 0 3 (mark_fixed bytes name digit quote) None none)
 ]
 
@@ -292,18 +316,24 @@ no_gap_open bytes opened none count (inr (inr b)) =
 block_here : (bytes : List ℕ) → 0 < length bytes → starts_with nat_eq bytes (codes "/*") ≡ true
     → (s : Step) × Stands s bytes
 block_here bytes some opened = elim (first_close bytes (length bytes)) [
-  | inl found ↦ (step.Gap (found.0 + 2), inr (inr (record {
+  | inl found ↦ (
+    step.Gap (found.0 + 2),
+    inr (inr (record {
       opened = opened;
       last = found.0;
       closed = found.1;
       first = found.2;
       all = refl;
-    })))
-  | inr none ↦ (step.Bad, record {
+    })),
+  )
+  | inr none ↦ (
+    step.Bad,
+    record {
       some_byte = some;
       no_gap = no_gap_open bytes opened none;
       no_lexeme = λ count t. t.no_comment (inr opened);
-    })
+    },
+  )
 ]
 
 no_comment : (bytes : List ℕ) → starts_with nat_eq bytes (codes "//") ≡ false
@@ -319,8 +349,11 @@ step_here bytes some = elim (cases_Bool (is_blank (slice_index bytes 0))) [
     | inr no_line ↦ elim (cases_Bool (starts_with nat_eq bytes (codes "/*"))) [
       | inl opened ↦ block_here bytes some opened
       | inr no_block ↦ elim (lexeme_here bytes some) [
-        | inl found ↦ (step.Taken found.0 found.1, taken found.0 bytes found.1 (no_comment bytes no_line no_block)
-            found.2)
+        | inl found ↦ (
+          step.Taken found.0 found.1,
+          taken found.0 bytes found.1 (no_comment bytes no_line no_block)
+              found.2,
+        )
         | inr none ↦ (step.Bad, nothing_here bytes some no_blank (no_comment bytes no_line no_block) none)
       ]
     ]

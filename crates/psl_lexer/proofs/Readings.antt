@@ -45,5 +45,8 @@ reading zero offset (b ∷ bytes) h = absurd (omega arith)
 reading (suc most) offset (b ∷ bytes) h =
     let here : (s : Step) × Stands s (b ∷ bytes) = step_here (b ∷ bytes) (omega arith) in
     step_read offset (b ∷ bytes) here.0 here.1
-    (λ count some fits. reading most (offset + count) (drop count (b ∷ bytes)) (omega (arith, length-drop count (b
-    ∷ bytes))))
+    (λ count some fits. reading most (offset + count) (drop count (b ∷ bytes)) (omega (
+      arith,
+      length-drop count (b
+          ∷ bytes),
+    )))

@@ -3,12 +3,20 @@ use Rattle.std.proofs.Common.{subst, ◌≡◌, ◌≤◌, ℕ, ◌+◌, ◌-◌
 use Rattle.std.proofs.Common.{arith, All, length-drop}
 use Rattle.std.proofs.lemmas.List.{drop-drop}
 use Rattle.std.proofs.lemmas.List.Elements.{All-nil, All-cons}
+use Rattle.std.proofs.lemmas.List.Kept.{AllPairs-cons}
+use Rattle.std.specs.Prelude.{AllPairs}
 use Rattle.psl_lexer.specs.Shapes.{IsToken}
 use Rattle.psl_lexer.specs.Splits.{Splits, ends, gap, token}
-use Rattle.psl_lexer.specs.Order.{StandInRow, IsSpelled}
+use Rattle.psl_lexer.specs.Order.{EndsBefore, IsSpelled}
 use Rattle.psl_lexer.specs.declared.kinds.Kind.{Kind}
 use Rattle.psl_lexer.specs.declared.kinds.Token.{Token}
 use Rattle.psl_lexer.proofs.Gaps.{gap_fits, lexeme_some}
+
+-- from one offset up to another: one behind the other, none of them empty
+abbrev pub StandInRow : (from : ℕ) → List Token → (to : ℕ) → Type 0
+StandInRow from [] to = from ≤ to
+StandInRow from (token ∷ tokens) to =
+    (from ≤ token.start) × (token.start < token.end) × StandInRow token.end tokens to
 
 from_earlier : (early late : ℕ) (tokens : List Token) (to : ℕ) → early ≤ late → StandInRow late tokens to
     → StandInRow early tokens to
@@ -30,9 +38,12 @@ stand offset bytes tokens (gap n g s) =
     (subst P (same_end offset n bytes fits.1) (stand (offset + n) (drop n bytes) tokens s))
 stand offset bytes tokens (token {tokens = rest} n k t is s) =
     let some : 0 < n = lexeme_some bytes n t.longest.is_lexeme in
-    let P : ℕ → Type 0 = λ (end : ℕ). StandInRow (offset + n) rest end in
-    (omega arith, omega arith, subst P (same_end offset n bytes t.longest.within) (stand (offset + n) (drop n
-    bytes) rest s))
+    let P : ℕ → Type 0 = λ (end : ℕ). StandInRow (offset + n) rest end in (
+      omega arith,
+      omega arith,
+      subst P (same_end offset n bytes t.longest.within) (stand (offset + n) (drop n
+          bytes) rest s),
+    )
 
 -- the bytes from one place up to another
 spelled_here : (text bytes : List ℕ) (offset n : ℕ) (k : Kind) → bytes ≡ drop offset text → IsToken k (take n bytes)
@@ -54,3 +65,31 @@ spelled text offset bytes tokens at (token {tokens = rest} n k t is s) =
     All-cons (IsSpelled text) (record { kind = k; start = offset; end = offset + n }) rest
     (spelled_here text bytes offset n k at is)
     (spelled text (offset + n) (drop n bytes) rest (further text bytes offset n at) s)
+
+row_end : (from : ℕ) (tokens : List Token) (to : ℕ) → StandInRow from tokens to → from ≤ to
+row_end from [] to row = row
+row_end from (t ∷ tokens) to row =
+    let first : from ≤ t.start = row.0 in
+    let some : t.start < t.end = row.1 in
+    let rest : t.end ≤ to = row_end t.end tokens to row.2 in
+    omega arith
+
+pub all_within : (from : ℕ) (tokens : List Token) (to : ℕ) → StandInRow from tokens to
+    → All (λ t. (t.start < t.end) × (t.end ≤ to)) tokens
+all_within from [] to row = All-nil (λ t. (t.start < t.end) × (t.end ≤ to))
+all_within from (t ∷ tokens) to row =
+    All-cons (λ t. (t.start < t.end) × (t.end ≤ to)) t tokens (row.1, row_end t.end tokens to row.2)
+    (all_within t.end tokens to row.2)
+
+all_behind : (from : ℕ) (tokens : List Token) (to : ℕ) → StandInRow from tokens to → All (λ t. from ≤ t.start) tokens
+all_behind from [] to row = All-nil (λ t. from ≤ t.start)
+all_behind from (t ∷ tokens) to row =
+    let first : from ≤ t.start = row.0 in
+    let some : t.start < t.end = row.1 in
+    All-cons (λ t. from ≤ t.start) t tokens first (all_behind from tokens to (from_earlier from t.end tokens to
+    (omega arith) row.2))
+
+pub all_ascend : (from : ℕ) (tokens : List Token) (to : ℕ) → StandInRow from tokens to → AllPairs EndsBefore tokens
+all_ascend from [] to row = λ i j d less inside. absurd (omega arith)
+all_ascend from (t ∷ tokens) to row =
+    AllPairs-cons EndsBefore t tokens (all_behind t.end tokens to row.2) (all_ascend t.end tokens to row.2)

@@ -18,12 +18,15 @@ lexeme_to bytes (inr (inr s)) = (lexeme.NameTooLong, s)
 
 pub taken : (x : Lexeme) (bytes : List ℕ) (count : ℕ) → (OpensComment bytes → ⊥) → SpellsLongest x bytes count
     → IsTaken bytes count × Spells x (take count bytes)
-taken x bytes count comment longest = (record {
-  no_comment = comment;
-  longest = record {
-    within = longest.within;
-    is_lexeme = lexeme_from x (take count bytes) longest.is_lexeme;
-    none_longer = λ more less within is. let other : (y : Lexeme) × Spells y (take more bytes) =
-        lexeme_to (take more bytes) is in longest.no_more more less within other.0 other.1;
-  };
-}, longest.is_lexeme)
+taken x bytes count comment longest = (
+  record {
+    no_comment = comment;
+    longest = record {
+      within = longest.within;
+      is_lexeme = lexeme_from x (take count bytes) longest.is_lexeme;
+      none_longer = λ more less within is. let other : (y : Lexeme) × Spells y (take more bytes) =
+          lexeme_to (take more bytes) is in longest.no_more more less within other.0 other.1;
+    };
+  },
+  longest.is_lexeme,
+)
