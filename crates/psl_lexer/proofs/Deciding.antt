@@ -1,5 +1,5 @@
 -- What stands at the front of a text can be decided.
-use Rattle.std.proofs.Common.{subst, ◌≡◌, ◌≤◌, ℕ, zero, suc, ◌+◌, ◌<◌, sym, ap, refl, Bool, true, false, nat_eq}
+use Rattle.std.proofs.Common.{subst, ◌≡◌, ◌≤◌, ℕ, zero, suc, ◌+◌, ◌<◌, sym, ap, refl, true, false, nat_eq}
 use Rattle.std.proofs.Common.{Some, None, List, [], ◌∷◌, take, drop, length, slice_index, arith, inl, inr, ◌⊎◌}
 use Rattle.std.proofs.Common.{codes, Contains, bytes_eq}
 use Rattle.std.specs.List.{prefix_len, starts_with}
@@ -23,7 +23,7 @@ use Rattle.psl_lexer.proofs.Fixed.{fixed_sound, fixed_complete}
 use Rattle.psl_lexer.proofs.Fronts.{fixed_lexeme, fixed_longest, fixed_none, strong_fixed, mark_fixed}
 use Rattle.psl_lexer.proofs.Names.{name_part, number_part, usable}
 use Rattle.psl_lexer.proofs.Sized.{SizedFront, no_sized, sized_longest}
-use Rattle.psl_lexer.proofs.Texts.{TextFront, no_text, text_longest}
+use Rattle.psl_lexer.proofs.Texts.{no_text, text_longest}
 use Rattle.psl_lexer.proofs.Gaps.{nothing_here, opened_by}
 use Rattle.psl_lexer.proofs.Taken.{taken}
 

@@ -1,5 +1,5 @@
 -- Where the tokens of a text stand, and which bytes they have.
-use Rattle.std.proofs.Common.{subst, ◌≡◌, ◌≤◌, ℕ, ◌+◌, ◌-◌, ◌<◌, ◌∙◌, sym, ap, List, [], ◌∷◌, take, drop, length}
+use Rattle.std.proofs.Common.{subst, ◌≡◌, ◌≤◌, ℕ, ◌+◌, ◌-◌, ◌<◌, ◌∙◌, ap, List, [], ◌∷◌, take, drop, length}
 use Rattle.std.proofs.Common.{arith, All, length-drop}
 use Rattle.std.proofs.lemmas.List.{drop-drop}
 use Rattle.std.proofs.lemmas.List.Elements.{All-nil, All-cons}
@@ -15,8 +15,7 @@ use Rattle.psl_lexer.proofs.Gaps.{gap_fits, lexeme_some}
 -- from one offset up to another: one behind the other, none of them empty
 abbrev pub StandInRow : (from : ℕ) → List Token → (to : ℕ) → Type 0
 StandInRow from [] to = from ≤ to
-StandInRow from (token ∷ tokens) to =
-    (from ≤ token.start) × (token.start < token.end) × StandInRow token.end tokens to
+StandInRow from (t ∷ tokens) to = (from ≤ t.start) × (t.start < t.end) × StandInRow t.end tokens to
 
 from_earlier : (early late : ℕ) (tokens : List Token) (to : ℕ) → early ≤ late → StandInRow late tokens to
     → StandInRow early tokens to

@@ -1,6 +1,6 @@
 //! Each word and each mark, alone and between others, and those that are left out.
 
-use super::{between, gives};
+use super::{between, gives, short_length};
 use crate::Kind::{Mark, Name, Word};
 use crate::{Key, LexError, Mark as Sign};
 use std::test::Fail;
@@ -47,7 +47,7 @@ fn each_word_is_one_token(rt: HostRuntime) -> Result<(), Fail> {
         (b"next_event_e", Key::NextEventE),
         (b"next_event_e!", Key::NextEventEStrong),
     ] {
-        let end = text.len() as u32;
+        let end = short_length(text);
         assert!(rt; gives(alloc, text, Ok(&[(Word(key), 0, end)])), "{text:?}");
         let glued = between(alloc, b"(", text, b";")?;
         assert!(rt;
@@ -107,7 +107,7 @@ fn each_mark_is_one_token(rt: HostRuntime) -> Result<(), Fail> {
         (b"|=>", Sign::SuffixNext),
         (b"=", Sign::Equal),
     ] {
-        let end = text.len() as u32;
+        let end = short_length(text);
         assert!(rt; gives(alloc, text, Ok(&[(Mark(mark), 0, end)])), "{text:?}");
         let glued = between(alloc, b"a", text, b"b")?;
         assert!(rt;
@@ -151,7 +151,7 @@ fn each_left_out_word_is_a_fault_but_in_a_longer_name(rt: HostRuntime) -> Result
             let fault = Err(LexError::LeftOut { offset: 0 });
             assert!(rt; gives(alloc, word.as_bytes(), fault), "{word}");
             let longer = between(alloc, b"", word.as_bytes(), b"$")?;
-            let end = longer.len() as u32;
+            let end = short_length(&longer);
             assert!(rt; gives(alloc, &longer, Ok(&[(Name, 0, end)])), "{word}");
         }
     }
