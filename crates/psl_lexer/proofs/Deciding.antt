@@ -9,7 +9,7 @@ use Rattle.std.proofs.lemmas.Slice.Eq.{bytes_eq-Decides}
 use Rattle.psl_model.specs.Names.{begins_name, continues_name, IsIdentifier, is_report_byte, checker_prefix}
 use Rattle.psl_model.specs.Reserved.{left_out_words, verilog_words}
 use Rattle.psl_lexer.specs.Shapes.{is_digit, is_base, is_base_digit, continues_number, IsLeftOutWord}
-use Rattle.psl_lexer.specs.Splits.{is_blank, is_in_line, OpensComment, ClosesAt, IsGap}
+use Rattle.psl_lexer.specs.Gaps.{ClosesAt, IsGap, OpensComment, is_blank, is_in_line}
 use Rattle.psl_lexer.specs.inner.Lexemes.{IsFixed, Spells, SpellsLongest, HasNoMore}
 use Rattle.psl_lexer.specs.inner.Places.{fixed}
 use Rattle.psl_lexer.specs.inner.Steps.{HasNoFixed, IsLongestFixed, Stands}

@@ -1,7 +1,8 @@
 -- The lexemes of the definition, and those of the code's enum.
 use Rattle.std.proofs.Common.{ℕ, List, take, inl, inr}
 use Rattle.psl_lexer.specs.Shapes.{IsLexeme}
-use Rattle.psl_lexer.specs.Splits.{OpensComment, IsTaken}
+use Rattle.psl_lexer.specs.Gaps.{OpensComment}
+use Rattle.psl_lexer.specs.Splits.{IsTaken}
 use Rattle.psl_lexer.specs.inner.Lexemes.{Spells, SpellsLongest}
 use Rattle.psl_lexer.specs.declared.kinds.Lexeme.{Lexeme}
 use Rattle.psl_lexer.specs.declared.kinds.Lexeme.TheVariants as lexeme
