@@ -6,8 +6,10 @@ use Rattle.std.proofs.lemmas.List.Elements.{All-nil, All-cons}
 use Rattle.std.proofs.lemmas.List.Kept.{AllPairs-cons}
 use Rattle.std.specs.Prelude.{AllPairs}
 use Rattle.psl_lexer.specs.Shapes.{IsToken}
-use Rattle.psl_lexer.specs.Splits.{Splits, ends, gap, token}
-use Rattle.psl_lexer.specs.Order.{EndsBefore, IsSpelled}
+use Rattle.psl_lexer.specs.Splits.{Splits, Faults, ends, gap, token, bad_byte, left_out, name_too_long, behind_gap}
+use Rattle.psl_lexer.specs.Splits.{behind_token, IsTaken}
+use Rattle.psl_lexer.specs.declared.kinds.LexError.{LexError}
+use Rattle.psl_lexer.specs.Order.{EndsBefore, IsSpelled, IsFaultBelow}
 use Rattle.psl_lexer.specs.declared.kinds.Kind.{Kind}
 use Rattle.psl_lexer.specs.declared.kinds.Token.{Token}
 use Rattle.psl_lexer.proofs.Gaps.{gap_fits, lexeme_some}
@@ -92,3 +94,32 @@ pub all_ascend : (from : ℕ) (tokens : List Token) (to : ℕ) → StandInRow fr
 all_ascend from [] to row = λ i j d less inside. absurd (omega arith)
 all_ascend from (t ∷ tokens) to row =
     AllPairs-cons EndsBefore t tokens (all_behind t.end tokens to row.2) (all_ascend t.end tokens to row.2)
+
+pub count_within : (from : ℕ) (tokens : List Token) (to : ℕ) → StandInRow from tokens to → from + length tokens ≤ to
+count_within from [] to row = let short : from ≤ to = row in omega arith
+count_within from (t ∷ tokens) to row =
+    let first : from ≤ t.start = row.0 in
+    let some : t.start < t.end = row.1 in
+    let rest : t.end + length tokens ≤ to = count_within t.end tokens to row.2 in
+    omega arith
+
+taken_some : (bytes : List ℕ) (n : ℕ) → IsTaken bytes n → 0 < length bytes
+taken_some bytes n t =
+    let some : 0 < n = lexeme_some bytes n t.longest.is_lexeme in
+    let within : n ≤ length bytes = t.longest.within in
+    omega arith
+
+pub fault_below : (offset : ℕ) (bytes : List ℕ) (fault : LexError) → Faults offset bytes fault
+    → IsFaultBelow (offset + length bytes) fault
+fault_below offset bytes fault (bad_byte bad) = let some : 0 < length bytes = bad.some_byte in omega arith
+fault_below offset bytes fault (left_out n t is) =
+    let some : 0 < length bytes = taken_some bytes n t in omega arith
+fault_below offset bytes fault (name_too_long n t is) =
+    let some : 0 < length bytes = taken_some bytes n t in omega arith
+fault_below offset bytes fault (behind_gap n g f) =
+    let fits : (0 < n) × (n ≤ length bytes) = gap_fits bytes n g in
+    let P : ℕ → Type 0 = λ (end : ℕ). IsFaultBelow end fault in
+    subst P (same_end offset n bytes fits.1) (fault_below (offset + n) (drop n bytes) fault f)
+fault_below offset bytes fault (behind_token n k t is f) =
+    let P : ℕ → Type 0 = λ (end : ℕ). IsFaultBelow end fault in
+    subst P (same_end offset n bytes t.longest.within) (fault_below (offset + n) (drop n bytes) fault f)

@@ -1,7 +1,7 @@
-use Rattle.std.proofs.Common.{subst, ◌≡◌, ℕ, ◌+◌, List, length, arith}
+use Rattle.std.proofs.Common.{subst, ◌≡◌, ◌≤◌, ℕ, ◌+◌, List, length, arith}
 use Rattle.psl_lexer.specs.Splits.{Splits}
 use Rattle.psl_lexer.specs.declared.kinds.Token.{Token}
-use Rattle.psl_lexer.proofs.Standing.{StandInRow, stand, all_within, all_ascend}
+use Rattle.psl_lexer.proofs.Standing.{StandInRow, stand, all_within, all_ascend, count_within}
 use Rattle.psl_lexer.proofs.laws.tokens_stand_in_order.Goals as goal
 
 row : (text : List ℕ) (tokens : List Token) → Splits 0 text tokens → StandInRow 0 tokens (length text)
@@ -15,3 +15,7 @@ returns-clause-within c text tokens splits = all_within 0 tokens (length text) (
 
 pub returns-clause-ascend : goal.returns-clause-ascend
 returns-clause-ascend c text tokens splits = all_ascend 0 tokens (length text) (row text tokens splits)
+
+pub returns-clause-few : goal.returns-clause-few
+returns-clause-few c text tokens splits = let count : 0 + length tokens ≤ length text =
+    count_within 0 tokens (length text) (row text tokens splits) in omega arith
