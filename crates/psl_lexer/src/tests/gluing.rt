@@ -5,7 +5,7 @@ use crate::Kind::{Mark, Name, Number, Sized, Text, Word};
 use crate::{Key, Mark as Sign};
 
 #[test]
-fn the_longest_mark_is_taken(rt: HostRuntime) {
+fn the_longest_arrow_is_taken(rt: HostRuntime) {
     for (text, want) in [
         (
             b"a|->b".as_slice(),
@@ -33,7 +33,18 @@ fn the_longest_mark_is_taken(rt: HostRuntime) {
             b"||->",
             &[(Mark(Sign::OrOr), 0, 2), (Mark(Sign::Arrow), 2, 4)],
         ),
-        (b"[*", &[(Mark(Sign::RepeatOpen), 0, 2)]),
+    ] {
+        assert!(rt; gives(rt.alloc(), text, Ok(want)), "{text:?}");
+    }
+}
+
+#[test]
+fn the_longest_bracket_or_comparison_is_taken(rt: HostRuntime) {
+    for (text, want) in [
+        (
+            b"[*".as_slice(),
+            [(Mark(Sign::RepeatOpen), 0, 2)].as_slice(),
+        ),
         (
             b"[ +]",
             &[
@@ -87,9 +98,17 @@ fn a_sign_belongs_to_the_word_before_it(rt: HostRuntime) {
             b"untilx!_",
             &[(Name, 0, 6), (Mark(Sign::Exclamation), 6, 7), (Name, 7, 8)],
         ),
+    ] {
+        assert!(rt; gives(rt.alloc(), text, Ok(want)), "{text:?}");
+    }
+}
+
+#[test]
+fn a_sign_is_taken_with_a_word_or_by_itself(rt: HostRuntime) {
+    for (text, want) in [
         (
-            b"a until!b",
-            &[(Name, 0, 1), (Word(Key::UntilStrong), 2, 8), (Name, 8, 9)],
+            b"a until!b".as_slice(),
+            [(Name, 0, 1), (Word(Key::UntilStrong), 2, 8), (Name, 8, 9)].as_slice(),
         ),
         (
             b"a until !b",

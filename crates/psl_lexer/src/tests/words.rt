@@ -3,11 +3,35 @@
 use super::{between, gives, short_length};
 use crate::Kind::{Mark, Name, Word};
 use crate::{Key, LexError, Mark as Sign};
+use std::alloc::{AllocError, Global};
 use std::test::Fail;
+
+// Whether a word is one token, alone and between marks.
+fn word_is_one(alloc: Global, text: &[u8], key: Key) -> Result<bool, AllocError> {
+    let end = short_length(text);
+    let glued = between(alloc, b"(", text, b";")?;
+    let want = [
+        (Mark(Sign::OpenParenthesis), 0, 1),
+        (Word(key), 1, end + 1),
+        (Mark(Sign::Semicolon), end + 1, end + 2),
+    ];
+    Ok(gives(alloc, text, Ok(&[(Word(key), 0, end)])) && gives(alloc, &glued, Ok(&want)))
+}
+
+// Whether a mark is one token, alone and between names.
+fn mark_is_one(alloc: Global, text: &[u8], mark: Sign) -> Result<bool, AllocError> {
+    let end = short_length(text);
+    let glued = between(alloc, b"a", text, b"b")?;
+    let want = [
+        (Name, 0, 1),
+        (Mark(mark), 1, end + 1),
+        (Name, end + 1, end + 2),
+    ];
+    Ok(gives(alloc, text, Ok(&[(Mark(mark), 0, end)])) && gives(alloc, &glued, Ok(&want)))
+}
 
 #[test]
 fn each_word_is_one_token(rt: HostRuntime) -> Result<(), Fail> {
-    let alloc = rt.alloc();
     for (text, key) in [
         (b"vunit".as_slice(), Key::Vunit),
         (b"wire", Key::Wire),
@@ -25,50 +49,46 @@ fn each_word_is_one_token(rt: HostRuntime) -> Result<(), Fail> {
         (b"inf", Key::Inf),
         (b"abort", Key::Abort),
         (b"within", Key::Within),
-        (b"eventually!", Key::EventuallyStrong),
         (b"until", Key::Until),
-        (b"until!", Key::UntilStrong),
         (b"until_", Key::UntilOverlapping),
-        (b"until!_", Key::UntilStrongOverlapping),
         (b"before", Key::Before),
-        (b"before!", Key::BeforeStrong),
         (b"before_", Key::BeforeOverlapping),
-        (b"before!_", Key::BeforeStrongOverlapping),
         (b"next", Key::Next),
-        (b"next!", Key::NextStrong),
         (b"next_a", Key::NextA),
-        (b"next_a!", Key::NextAStrong),
         (b"next_e", Key::NextE),
-        (b"next_e!", Key::NextEStrong),
         (b"next_event", Key::NextEvent),
-        (b"next_event!", Key::NextEventStrong),
         (b"next_event_a", Key::NextEventA),
-        (b"next_event_a!", Key::NextEventAStrong),
         (b"next_event_e", Key::NextEventE),
-        (b"next_event_e!", Key::NextEventEStrong),
     ] {
-        let end = short_length(text);
-        assert!(rt; gives(alloc, text, Ok(&[(Word(key), 0, end)])), "{text:?}");
-        let glued = between(alloc, b"(", text, b";")?;
-        assert!(rt;
-            gives(
-                alloc,
-                &glued,
-                Ok(&[
-                    (Mark(Sign::OpenParenthesis), 0, 1),
-                    (Word(key), 1, end + 1),
-                    (Mark(Sign::Semicolon), end + 1, end + 2)
-                ])
-            ),
-            "{text:?}"
-        );
+        let one = word_is_one(rt.alloc(), text, key)?;
+        assert!(rt; one, "{text:?}");
     }
     Ok(())
 }
 
 #[test]
-fn each_mark_is_one_token(rt: HostRuntime) -> Result<(), Fail> {
-    let alloc = rt.alloc();
+fn each_word_with_a_sign_is_one_token(rt: HostRuntime) -> Result<(), Fail> {
+    for (text, key) in [
+        (b"eventually!".as_slice(), Key::EventuallyStrong),
+        (b"until!", Key::UntilStrong),
+        (b"until!_", Key::UntilStrongOverlapping),
+        (b"before!", Key::BeforeStrong),
+        (b"before!_", Key::BeforeStrongOverlapping),
+        (b"next!", Key::NextStrong),
+        (b"next_a!", Key::NextAStrong),
+        (b"next_e!", Key::NextEStrong),
+        (b"next_event!", Key::NextEventStrong),
+        (b"next_event_a!", Key::NextEventAStrong),
+        (b"next_event_e!", Key::NextEventEStrong),
+    ] {
+        let one = word_is_one(rt.alloc(), text, key)?;
+        assert!(rt; one, "{text:?}");
+    }
+    Ok(())
+}
+
+#[test]
+fn each_mark_of_a_byte_is_one_token(rt: HostRuntime) -> Result<(), Fail> {
     for (text, mark) in [
         (b"{".as_slice(), Sign::OpenBrace),
         (b"}", Sign::CloseBrace),
@@ -76,52 +96,49 @@ fn each_mark_is_one_token(rt: HostRuntime) -> Result<(), Fail> {
         (b")", Sign::CloseParenthesis),
         (b"[", Sign::OpenBracket),
         (b"]", Sign::CloseBracket),
-        (b"[*", Sign::RepeatOpen),
-        (b"[+]", Sign::RepeatPlus),
-        (b"[->", Sign::GotoOpen),
-        (b"[=", Sign::EqualRepeatOpen),
         (b";", Sign::Semicolon),
         (b":", Sign::Colon),
         (b",", Sign::Comma),
         (b"!", Sign::Exclamation),
         (b"~", Sign::Tilde),
         (b"&", Sign::And),
-        (b"&&", Sign::AndAnd),
         (b"|", Sign::Or),
-        (b"||", Sign::OrOr),
         (b"^", Sign::Caret),
-        (b"==", Sign::EqualEqual),
-        (b"!=", Sign::NotEqual),
         (b"<", Sign::Less),
-        (b"<=", Sign::LessEqual),
         (b">", Sign::Greater),
-        (b">=", Sign::GreaterEqual),
-        (b"<<", Sign::ShiftLeft),
-        (b">>", Sign::ShiftRight),
         (b"+", Sign::Plus),
         (b"-", Sign::Minus),
         (b"?", Sign::Question),
+        (b"=", Sign::Equal),
+    ] {
+        let one = mark_is_one(rt.alloc(), text, mark)?;
+        assert!(rt; one, "{text:?}");
+    }
+    Ok(())
+}
+
+#[test]
+fn each_longer_mark_is_one_token(rt: HostRuntime) -> Result<(), Fail> {
+    for (text, mark) in [
+        (b"[*".as_slice(), Sign::RepeatOpen),
+        (b"[+]", Sign::RepeatPlus),
+        (b"[->", Sign::GotoOpen),
+        (b"[=", Sign::EqualRepeatOpen),
+        (b"&&", Sign::AndAnd),
+        (b"||", Sign::OrOr),
+        (b"==", Sign::EqualEqual),
+        (b"!=", Sign::NotEqual),
+        (b"<=", Sign::LessEqual),
+        (b">=", Sign::GreaterEqual),
+        (b"<<", Sign::ShiftLeft),
+        (b">>", Sign::ShiftRight),
         (b"->", Sign::Arrow),
         (b"<->", Sign::DoubleArrow),
         (b"|->", Sign::SuffixOverlapping),
         (b"|=>", Sign::SuffixNext),
-        (b"=", Sign::Equal),
     ] {
-        let end = short_length(text);
-        assert!(rt; gives(alloc, text, Ok(&[(Mark(mark), 0, end)])), "{text:?}");
-        let glued = between(alloc, b"a", text, b"b")?;
-        assert!(rt;
-            gives(
-                alloc,
-                &glued,
-                Ok(&[
-                    (Name, 0, 1),
-                    (Mark(mark), 1, end + 1),
-                    (Name, end + 1, end + 2)
-                ])
-            ),
-            "{text:?}"
-        );
+        let one = mark_is_one(rt.alloc(), text, mark)?;
+        assert!(rt; one, "{text:?}");
     }
     Ok(())
 }
