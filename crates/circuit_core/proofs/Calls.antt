@@ -1,6 +1,5 @@
 -- From a call that puts a node or a register at the end to what the public calls say.
-use Rattle.std.specs.Prelude.{ℕ, ◌≡◌, ◌++◌, [], ◌∷◌, Result, Ok, Err, Some, IfOk, OnOk, OnErr, length, slice_get}
-use Rattle.std.proofs.Common.{ap}
+use Rattle.std.specs.Prelude.{ℕ, ◌≡◌, ◌++◌, [], ◌∷◌, Result, Ok, Err, Some, IfOk, OnErr, length, slice_get}
 use Rattle.circuit_core.specs.Netlist.{Node, Register, Netlist}
 use Rattle.circuit_core.specs.Growth.{Extends}
 use Rattle.circuit_core.proofs.Growth.{extends_node_at, extends_register_at, extends_same, node_there, register_there}

@@ -1,12 +1,12 @@
 -- Each netlist whose nodes name earlier nets has a run over any inputs.
-use Rattle.std.specs.Prelude.{ℕ, zero, suc, ◌≡◌, ◌<◌, ◌≤◌, ◌+◌, ◌++◌, Bool, List, [], ◌∷◌, Option, Some, None, IfSome}
+use Rattle.std.specs.Prelude.{ℕ, zero, suc, ◌≡◌, ◌<◌, ◌+◌, ◌++◌, List, [], ◌∷◌, Option, Some, None, IfSome}
 use Rattle.std.specs.Prelude.{length, get_or, slice_get}
-use Rattle.std.proofs.Common.{refl, sym, ap, ◌∙◌, subst, arith, length-append}
+use Rattle.std.proofs.Common.{refl, sym, ap, ◌∙◌, arith, length-append}
 use Rattle.std.proofs.lemmas.List.{get_or_append_left, get_or_push}
 use Rattle.std.proofs.lemmas.Option.{same_Some, get_or_from_slice_get}
 use Rattle.psl_model.specs.Value.{own_value}
 use Rattle.circuit_core.specs.Netlist.{Op, bit, eot, guard, not, and, or, register, Node, Register, Netlist}
-use Rattle.circuit_core.specs.Run.{Stream, Run, Inputs, number, truth, flipped, both, either, IsRegisterStream}
+use Rattle.circuit_core.specs.Run.{Run, Inputs, number, truth, flipped, both, either}
 use Rattle.circuit_core.specs.Run.{Equation, IsRunOf}
 use Rattle.circuit_core.specs.WellMade.{IsOpAt, IsWellMade}
 

@@ -1,10 +1,10 @@
 -- How extensions join.
-use Rattle.std.specs.Prelude.{ℕ, suc, ◌≡◌, ◌≢◌, ◌⊎◌, ◌<◌, ◌≤◌, ◌+◌, List, Some, IsSome, length, slice_get}
-use Rattle.std.proofs.Common.{refl, sym, ap, ◌∙◌, subst, arith, inl, inr}
+use Rattle.std.specs.Prelude.{ℕ, ◌≡◌, ◌≢◌, ◌⊎◌, ◌<◌, ◌≤◌, ◌+◌, List, Some, IsSome, length, slice_get}
+use Rattle.std.proofs.Common.{sym, ap, ◌∙◌, subst, arith, inl, inr}
 use Rattle.std.proofs.lemmas.Bool.{cases_lt}
 use Rattle.std.proofs.lemmas.Option.{same_Some, slice_get_within}
 use Rattle.circuit_core.specs.Netlist.{Register, Netlist}
-use Rattle.circuit_core.specs.Growth.{Extends, IsSet, HaveNexts, Grows}
+use Rattle.circuit_core.specs.Growth.{Extends, IsSet, Grows}
 use Rattle.circuit_core.proofs.Lists.{there}
 use Rattle.circuit_core.proofs.Growth.{extends_self}
 

@@ -1,10 +1,10 @@
 -- Each call leaves a netlist well made.
-use Rattle.std.specs.Prelude.{ℕ, ◌≡◌, ◌≢◌, ◌⊎◌, ◌<◌, ◌≤◌, ◌^◌, ◌++◌, List, [], ◌∷◌, Option, Some, None, IfSome, All}
+use Rattle.std.specs.Prelude.{ℕ, ◌≡◌, ◌⊎◌, ◌<◌, ◌≤◌, ◌^◌, ◌++◌, List, [], ◌∷◌, Option, Some, None, IfSome}
 use Rattle.std.specs.Prelude.{length, slice_get}
-use Rattle.std.proofs.Common.{refl, sym, ap, ◌∙◌, subst, arith, length-append, inl, inr}
+use Rattle.std.proofs.Common.{refl, sym, subst, arith, length-append, inl, inr}
 use Rattle.circuit_core.specs.Netlist.{Op, bit, eot, guard, not, and, or, register, one_bit, Node, Register, Netlist}
 use Rattle.circuit_core.specs.Netlist.{IsNet}
-use Rattle.circuit_core.specs.WellMade.{IsWidth, IsOpAt, IsNodeAt, IsRegister, IsWellMade}
+use Rattle.circuit_core.specs.WellMade.{IsOpAt, IsNodeAt, IsRegister, IsWellMade}
 use Rattle.circuit_core.specs.Growth.{opened}
 use Rattle.circuit_core.proofs.Lists.{get_pushed}
 

@@ -1,9 +1,9 @@
 -- A finished netlist has one run over inputs.
-use Rattle.std.specs.Prelude.{ℕ, zero, suc, ◌≡◌, ◌<◌, ◌≤◌, List, [], ◌∷◌, Option, Some, None, IfSome, IsSomeAnd, length}
+use Rattle.std.specs.Prelude.{ℕ, zero, suc, ◌≡◌, ◌<◌, Option, Some, None, IfSome, IsSomeAnd, length}
 use Rattle.std.specs.Prelude.{slice_get}
 use Rattle.std.proofs.Common.{refl, sym, ap, ◌∙◌, arith}
 use Rattle.std.proofs.lemmas.Option.{slice_get_within}
-use Rattle.circuit_core.specs.Netlist.{Op, bit, eot, guard, not, and, or, register, one_bit, Node, Register, Netlist}
+use Rattle.circuit_core.specs.Netlist.{Op, bit, eot, guard, not, and, or, register, one_bit, Node, Netlist}
 use Rattle.circuit_core.specs.Netlist.{IsNet, IsNetOf}
 use Rattle.circuit_core.specs.Run.{Run, Inputs, flipped, both, either, Equation, IsRunOf}
 use Rattle.circuit_core.specs.WellMade.{IsOpAt, IsFinished}

@@ -1,16 +1,16 @@
 -- What it is to set the next of a register.
-use Rattle.std.specs.Prelude.{ℕ, zero, suc, ◌≡◌, ◌≢◌, ◌⊎◌, ◌<◌, ◌≤◌, List, Option, Some, None, IfSome, length}
+use Rattle.std.specs.Prelude.{ℕ, ◌≡◌, ◌≢◌, ◌⊎◌, ◌<◌, ◌≤◌, List, Some, None, length}
 use Rattle.std.specs.Prelude.{slice_get, map, option_map}
 use Rattle.std.proofs.Common.{refl, sym, ap, ◌∙◌, subst, arith, inl, inr, get_or}
 use Rattle.std.proofs.Math.ListN.{set, length-set}
 use Rattle.std.proofs.lemmas.Option.{same_Some, slice_get-map, slice_get-get_or, slice_get_cases}
 use Rattle.circuit_core.specs.declared.nodes.NetReg.{NetReg}
 use Rattle.circuit_core.specs.View.{register_of}
-use Rattle.circuit_core.specs.Netlist.{register, one_bit, Node, Register, Netlist, IsNet, IsNetOf}
+use Rattle.circuit_core.specs.Netlist.{register, one_bit, Register, Netlist, IsNet}
 use Rattle.circuit_core.specs.WellMade.{IsRegister, IsWellMade}
 use Rattle.circuit_core.specs.Growth.{opened, closed, HasNoNext, IsSet}
 use Rattle.circuit_core.proofs.Lists.{get_set, get_set_other, same_or_not}
-use Rattle.circuit_core.proofs.Growth.{Keeps, KeepEach, keeps_self, runs_kept}
+use Rattle.circuit_core.proofs.Growth.{Keeps, keeps_self, runs_kept}
 use Rattle.circuit_core.proofs.Making.{made_registers}
 
 pub opened_same : (a b : Register) → a ≡ b → (a.width ≡ b.width) × (a.initial ≡ b.initial) × (a.next ≡ b.next)
@@ -71,7 +71,8 @@ module _ (old : Netlist) (r next width initial : ℕ) (there : slice_get old.reg
           others = λ q x other at. at_others q other ∙ at;
           sets = λ w i at. let parts = opened_same (opened width initial) (opened w i)
               (same_Some (opened width initial) (opened w i) (sym there ∙ at)) in
-              at_r ∙ ap (λ (v : ℕ). Some (closed v initial next)) parts.0 ∙ ap (λ (v : ℕ). Some (closed w v next)) parts.1;
+              at_r ∙ ap (λ (v : ℕ). Some (closed v initial next)) parts.0
+              ∙ ap (λ (v : ℕ). Some (closed w v next)) parts.1;
           count = length-set old.registers r (closed width initial next);
           output = refl;
           runs = runs_kept old (record old { registers = changed }) refl (λ k node at. at)
@@ -83,7 +84,11 @@ module _ (old : Netlist) (r next width initial : ℕ) (there : slice_get old.reg
     pub set_made : (registers : List Register) → registers ≡ changed → IsWellMade old → IsNet old next →
         IsWellMade (record old { registers = registers })
     set_made registers e well is = made_registers old registers well
-        (omega (arith, ap (λ (xs : List Register). length xs) e, length-set old.registers r (closed width initial next)))
+        (omega (
+          arith,
+          ap (λ (xs : List Register). length xs) e,
+          length-set old.registers r (closed width initial next),
+        ))
         (λ q x at. each q x (ap (λ (xs : List Register). slice_get xs q) (sym e) ∙ at) (same_or_not q r))
       where
         each : (q : ℕ) (x : Register) → slice_get changed q ≡ Some x → (q ≡ r) ⊎ (q ≢ r) → IsRegister old x

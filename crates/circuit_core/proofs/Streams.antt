@@ -3,7 +3,7 @@ use Rattle.std.specs.Prelude.{ℕ, zero, suc, ◌≡◌, ◌≢◌, ◌↔◌, �
 use Rattle.std.proofs.Common.{refl, ap, ◌∙◌, arith, inl, inr}
 use Rattle.psl_model.specs.Expr.{Expr}
 use Rattle.psl_model.specs.Value.{own_value}
-use Rattle.circuit_core.specs.Netlist.{Op, bit, eot, guard, not, and, or, register, one_bit, Register, Netlist, IsNetOf}
+use Rattle.circuit_core.specs.Netlist.{bit, eot, guard, not, and, or, register, one_bit, Register, Netlist, IsNetOf}
 use Rattle.circuit_core.specs.Run.{On, truth, flipped, both, either, number, Throughout, InEachRun, InEachCycle}
 use Rattle.circuit_core.specs.Growth.{Extends}
 

@@ -3,7 +3,7 @@
 --     IsSet old r next new     the new netlist is the old one with the next of this register
 --     Grows old new more       extends, by so many registers, each with its next
 use Rattle.std.specs.Prelude.{ℕ, suc, ◌≡◌, ◌≢◌, ◌+◌, ◌<◌, ◌≤◌, Some, None, IsSome, length, slice_get}
-use Rattle.circuit_core.specs.Netlist.{Node, Register, Netlist, IsNet, IsNetOf}
+use Rattle.circuit_core.specs.Netlist.{Node, Register, Netlist, IsNetOf}
 use Rattle.circuit_core.specs.Run.{IsRunOf, InEachRun}
 
 pub record Extends (old new : Netlist) : Type 0 where

@@ -48,8 +48,8 @@ either (suc x) y = 1
 abbrev pub Throughout : Inputs → (ℕ → Type 0) → Type 0
 Throughout inputs P = (n : ℕ) → n < length inputs.trace → P n
 
--- a register begins with its reset value, and then has what its next had in the cycle before; while it has no next, it is
--- free after the first cycle
+-- a register begins with its reset value, and then has what its next had in the cycle before; while it has no next, it
+-- is free after the first cycle
 pub record IsRegisterStream (inputs : Inputs) (run : Run) (stream : Stream) (r : Register) : Type 0 where
   pub begins : 0 < length inputs.trace → stream 0 ≡ r.initial
   pub goes_on : IfSome r.next (λ next. (n : ℕ) → suc n < length inputs.trace → stream (suc n) ≡ run next n)

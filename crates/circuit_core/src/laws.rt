@@ -26,7 +26,8 @@ pub fn extensions_join()
     ensures itself { (m : plain.Netlist) → Extends m m }
     ensures twice { (a b c : plain.Netlist) → Extends a b → Extends b c → Extends a c }
     // The next of a register that came later may be set.
-    ensures set { (a b c : plain.Netlist) (r next : ℕ) → Extends a b → length a.registers ≤ r → IsSet b r next c → Extends a c }
+    ensures set { (a b c : plain.Netlist) (r next : ℕ) → Extends a b → length a.registers ≤ r → IsSet b r next c →
+        Extends a c }
 {}
 
 /// A register's net has in each later cycle the value that its next had before.

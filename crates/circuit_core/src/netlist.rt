@@ -195,7 +195,8 @@ impl Netlist {
         ensures one_more { length self.new.nodes ≤ suc (length self.old.nodes) }
         ensures node { IfOk result (λ k. slice_get self.new.nodes k.0 ≡ Some (one_bit (plain.guard (expr_of expr.now)))) }
         ensures stream { IfOk result (λ k. InEachRun self.new (λ inputs run. (n : ℕ) (values : List ℕ) →
-            slice_get inputs.trace n ≡ Some values → On (run k.0) n ↔ (own_value self.old.widths values (expr_of expr.now) ≢ 0))) }
+            slice_get inputs.trace n ≡ Some values → On (run k.0) n ↔
+            (own_value self.old.widths values (expr_of expr.now) ≢ 0))) }
     {
         let expr = copied(self.alloc, expr)?;
         self.put(Op::Guard(expr))

@@ -1,6 +1,5 @@
-use Rattle.std.proofs.Common.{map}
 use Rattle.std.proofs.lemmas.List.{map_push}
-use Rattle.circuit_core.specs.View.{op_of, node_of, net_of, register_of}
+use Rattle.circuit_core.specs.View.{op_of, node_of}
 use Rattle.circuit_core.proofs.Making.{pushed_node}
 use Rattle.circuit_core.proofs.netlist.Netlist.push.Goals as goal
 

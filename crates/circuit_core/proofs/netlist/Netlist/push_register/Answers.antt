@@ -1,4 +1,4 @@
-use Rattle.std.proofs.Common.{map, None}
+use Rattle.std.proofs.Common.{None}
 use Rattle.std.proofs.lemmas.List.{map_push}
 use Rattle.circuit_core.specs.View.{register_of}
 use Rattle.circuit_core.proofs.Making.{pushed_register}
