@@ -5,6 +5,10 @@ use Rattle.std.specs.Prelude.{ℕ}
 abbrev pub vector_limit : ℕ
 vector_limit = 64
 
+-- the most bits at which an expression is valued
+abbrev pub value_limit : ℕ
+value_limit = 128
+
 -- the most bytes of a name or a report text in a unit
 abbrev pub name_limit : ℕ
 name_limit = 255

@@ -4,7 +4,7 @@
 --     value_of widths values context e   its value where it is taken at `context` bits, at least its own
 --     own_value widths values e          its value at its own width
 -- `widths` and `values` have an entry for each signal, by its place. Widths have no bound here.
-use Rattle.std.specs.Prelude.{ℕ, ◌+◌, ◌-◌, ◌*◌, ◌/◌, ◌%◌, ◌^◌, max, Bool, List, slice_index, count_ones, if◌then◌else◌, ◌==◌, nat_lt, nat_le, not, ◌&&◌, ◌||◌, bit_and, bit_or, bit_xor}
+use Rattle.std.specs.Prelude.{ℕ, ◌+◌, ◌-◌, ◌*◌, ◌/◌, ◌%◌, ◌^◌, max, Bool, List, [], ◌∷◌, slice_index, ◌<◌, count_ones, if◌then◌else◌, ◌==◌, nat_lt, nat_le, not, ◌&&◌, ◌||◌, bit_and, bit_or, bit_xor}
 use Rattle.psl_model.specs.declared.operators.UnOp.{UnOp}
 use Rattle.psl_model.specs.declared.operators.UnOp.TheVariants.{Not, Flip, AllOnes, AnyOne, Parity}
 use Rattle.psl_model.specs.declared.operators.BinOp.{BinOp}
@@ -145,3 +145,10 @@ value_of widths values context (choice test first second) =
 -- the value of an expression that stands by itself
 abbrev pub own_value : (widths values : List ℕ) → Expr → ℕ
 own_value widths values e = value_of widths values (width_of widths e) e
+
+-- as many values as widths, each below its power of two
+abbrev pub FitWidths : (widths values : List ℕ) → Type 0
+FitWidths [] [] = Unit {0}
+FitWidths (width ∷ widths) (value ∷ values) = (value < 2 ^ width) × FitWidths widths values
+FitWidths [] (value ∷ values) = ⊥
+FitWidths (width ∷ widths) [] = ⊥

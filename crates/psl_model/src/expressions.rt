@@ -2,11 +2,9 @@
 
 ghost use Rattle.std.specs.Prelude.{◌≡◌, IfOk};
 ghost use Rattle.std.specs.Cmp.{on_equiv, partial_equiv_from_equiv};
-ghost use Rattle.psl_model.specs.SameExprLaws.{same_expr-is, same_expr_equiv};
-ghost use Rattle.psl_model.specs.FedExpr.{fed_expr};
-ghost use Rattle.std.proofs.Common.{ap};
-ghost use Rattle.psl_model.specs.SameExpr.{same_expr};
 ghost use Rattle.psl_model.specs.View.{expr_of};
+ghost use Rattle.psl_model.specs.inner.SameCode.{same_code-equiv, fed_code, fed_code-alike};
+ghost use Rattle.psl_model.specs.inner.ViewCode.{code_of_expr, same_expr};
 
 use crate::operators::{BinOp, UnOp};
 use std::alloc::{AllocError, Global};
@@ -34,9 +32,9 @@ pub enum Expr {
 }
 
 impl PartialEq for Expr {
-    ghost eq = { λ a b. same_expr (expr_of a) (expr_of b) };
+    ghost eq = { same_expr };
 
-    ghost laws = { partial_equiv_from_equiv (on_equiv expr_of same_expr_equiv) };
+    ghost laws = { partial_equiv_from_equiv (on_equiv code_of_expr same_code-equiv) };
 
     fn eq(&self, other: &Expr) -> bool {
         match (self, other) {
@@ -58,58 +56,81 @@ impl PartialEq for Expr {
 }
 
 impl Eq for Expr {
-    ghost laws = { on_equiv expr_of same_expr_equiv };
+    ghost laws = { on_equiv code_of_expr same_code-equiv };
 }
 
 impl Hash for Expr {
-    ghost hash_input = { λ a. fed_expr (expr_of a) };
+    ghost hash_input = { λ a. fed_code (code_of_expr a) };
 
-    ghost respects_eq = { λ a b same. ap fed_expr (same_expr-is (expr_of a) (expr_of b) same) };
+    ghost respects_eq = { λ a b same. fed_code-alike (code_of_expr a) (code_of_expr b) same };
 
     fn hash<H: Hasher>(&self, state: &mut H) {
         match self {
             Expr::Whole(signal) => {
-                state.write_u8(0);
-                signal.hash(state);
+                state.write_u128(0);
+                state.write_u128(*signal as u128);
             }
             Expr::Bit(signal, place) => {
-                state.write_u8(1);
-                signal.hash(state);
-                place.hash(state);
+                state.write_u128(1);
+                state.write_u128(*signal as u128);
+                state.write_u128(u128::from(*place));
             }
             Expr::Part(signal, high, low) => {
-                state.write_u8(2);
-                signal.hash(state);
-                high.hash(state);
-                low.hash(state);
+                state.write_u128(2);
+                state.write_u128(*signal as u128);
+                state.write_u128(u128::from(*high));
+                state.write_u128(u128::from(*low));
             }
             Expr::Plain(number) => {
-                state.write_u8(3);
-                number.hash(state);
+                state.write_u128(3);
+                state.write_u128(u128::from(*number));
             }
             Expr::Sized(width, value) => {
-                state.write_u8(4);
-                width.hash(state);
-                value.hash(state);
+                state.write_u128(4);
+                state.write_u128(u128::from(*width));
+                state.write_u128(*value);
             }
             Expr::Unary(op, operand) => {
-                state.write_u8(5);
-                op.hash(state);
+                state.write_u128(5);
+                state.write_u128(*op as u128);
                 operand.get().hash(state);
             }
             Expr::Binary(op, left, right) => {
-                state.write_u8(6);
-                op.hash(state);
+                state.write_u128(6);
+                state.write_u128(*op as u128);
                 left.get().hash(state);
                 right.get().hash(state);
             }
             Expr::Choice(test, yes, no) => {
-                state.write_u8(7);
+                state.write_u128(7);
                 test.get().hash(state);
                 yes.get().hash(state);
                 no.get().hash(state);
             }
         }
+    }
+}
+
+impl Expr {
+    /// An equal expression.
+    #[cycle(copy_expr)]
+    pub fn copy(&self, alloc: Global) -> Result<Expr, AllocError>
+        ensures equal { IfOk result (λ copy. expr_of copy ≡ expr_of self.now) }
+    {
+        Ok(match self {
+            Expr::Whole(signal) => Expr::Whole(*signal),
+            Expr::Bit(signal, place) => Expr::Bit(*signal, *place),
+            Expr::Part(signal, high, low) => Expr::Part(*signal, *high, *low),
+            Expr::Plain(number) => Expr::Plain(*number),
+            Expr::Sized(width, value) => Expr::Sized(*width, *value),
+            Expr::Unary(op, operand) => Expr::Unary(*op, operand.copy(alloc)?),
+            Expr::Binary(op, left, right) => {
+                Expr::Binary(*op, left.copy(alloc)?, right.copy(alloc)?)
+            }
+            Expr::Choice(test, yes, no) => {
+                Expr::Choice(test.copy(alloc)?, yes.copy(alloc)?, no.copy(alloc)?)
+            }
+        })
     }
 }
 
@@ -122,7 +143,7 @@ pub struct Subexpr {
 
 impl Model for Subexpr {
     ghost use Rattle.psl_model.specs.Expr as tree;
-    ghost use Rattle.psl_model.specs.Codes.{coded_expr};
+    ghost use Rattle.psl_model.specs.inner.Codes.{coded_expr};
 
     ghost Value = { tree.Expr };
 
@@ -155,6 +176,13 @@ impl Subexpr {
     {
         let Subexpr { node } = self;
         Box::into_inner(node)
+    }
+
+    #[cycle(copy_expr)]
+    pub fn copy(&self, alloc: Global) -> Result<Subexpr, AllocError>
+        ensures equal { IfOk result (λ operand. operand ≡ self.now) }
+    {
+        Subexpr::new(alloc, self.get().copy(alloc)?)
     }
 }
 

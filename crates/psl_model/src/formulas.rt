@@ -81,7 +81,7 @@ pub struct Subformula {
 
 impl Model for Subformula {
     ghost use Rattle.psl_model.specs.Formula as tree;
-    ghost use Rattle.psl_model.specs.Codes.{coded_formula};
+    ghost use Rattle.psl_model.specs.inner.Codes.{coded_formula};
 
     ghost Value = { tree.Formula };
 

@@ -1,11 +1,10 @@
 //! Names, and signals with their names.
 
 ghost use Rattle.std.specs.Prelude.{◌≡◌, IfOk, nat_eq};
-ghost use Rattle.std.proofs.Common.{rules};
 ghost use Rattle.std.specs.Cmp.{partial_equiv_from_equiv};
-ghost use Rattle.std.specs.Cmp.Lexicographic.{nat_list_eq_equiv, pointwise};
-ghost use Rattle.std.specs.Cmp.Rules.{hashing};
+ghost use Rattle.std.specs.Cmp.Lexicographic.{nat_list_eq_equiv, pointwise, bytes_decides};
 ghost use Rattle.std.specs.Hash as fed;
+ghost use Rattle.std.proofs.Common.{ap};
 
 use std::alloc::{AllocError, Global};
 use std::hash::{Hash, Hasher};
@@ -63,7 +62,7 @@ impl Eq for Name {
 impl Hash for Name {
     ghost hash_input = { λ name. fed.slice fed.u8 name };
 
-    ghost respects_eq = { Prim.search (hashing, rules) };
+    ghost respects_eq = { λ a b same. ap (fed.slice fed.u8) ((bytes_decides a b).0 same) };
 
     fn hash<H: Hasher>(&self, state: &mut H) {
         self.bytes().hash(state);

@@ -1,0 +1,7 @@
+pub mod Contexts
+pub mod Fits
+pub mod Moved
+pub mod Shifts
+pub mod ValidTests
+pub mod Views
+pub mod Wrapping
