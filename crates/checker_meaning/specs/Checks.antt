@@ -1,6 +1,7 @@
 -- When a module checks a formula: its output against violation (IEEE 1850-2010, Annex B), over every run from reset.
 -- `widths` has the width of each signal of the unit; the module's ports are the signals at `places`.
-use Rattle.std.specs.Prelude.{◌≢◌, ◌↔◌, ℕ, suc, ◌-◌, ◌<◌, List, [], ◌∷◌, ◌++◌, map, length, take, replicate, slice_index, All, Contains}
+use Rattle.std.specs.Prelude.{◌≢◌, ◌↔◌, ℕ, suc, ◌-◌, ◌<◌, List, [], ◌∷◌, ◌++◌, map, length, take, replicate}
+use Rattle.std.specs.Prelude.{slice_index, All, Contains}
 use Rattle.psl_model.specs.Formula.{Formula}
 use Rattle.psl_meaning.specs.Word.{Valuation}
 use Rattle.psl_meaning.specs.Violation.{WeaklyViolates, Violates}

@@ -1,5 +1,6 @@
 -- What a text is for a unit: one checker for each assertion.
-use Rattle.std.specs.Prelude.{◌≡◌, ℕ, suc, List, [], ◌∷◌, ◌++◌, map, length, slice_get, codes, decimal, Option, Some, None}
+use Rattle.std.specs.Prelude.{◌≡◌, ℕ, suc, List, [], ◌∷◌, ◌++◌, map, length, slice_get, codes, decimal, Option, Some}
+use Rattle.std.specs.Prelude.{None}
 use Rattle.std.specs.List.{filter_map}
 use Rattle.psl_model.specs.declared.names.Signal.{Signal}
 use Rattle.psl_model.specs.Unit.{PslUnit, Directive}
@@ -41,12 +42,14 @@ pub record IsCheckerOf (unit : PslUnit) (number : ℕ) (directive : Directive) (
 -- one module a directive, in their order, numbered from `from` on
 abbrev pub AreCheckersOf : PslUnit → (from : ℕ) → List Directive → List Module → Type 0
 AreCheckersOf unit from [] [] = Unit {0}
-AreCheckersOf unit from (directive ∷ directives) (m ∷ modules) = IsCheckerOf unit from directive m × AreCheckersOf unit (suc from) directives modules
+AreCheckersOf unit from (directive ∷ directives) (m ∷ modules) = IsCheckerOf unit from directive m ×
+    AreCheckersOf unit (suc from) directives modules
 AreCheckersOf unit from _ _ = ⊥
 
 -- the text stands for one checker for each of the unit's directives
 abbrev pub ChecksUnit : PslUnit → (text : List ℕ) → Type 0
-ChecksUnit unit text = (modules : List Module) × StandsForModules text modules × AreCheckersOf unit 1 unit.directives modules
+ChecksUnit unit text = (modules : List Module) × StandsForModules text modules ×
+    AreCheckersOf unit 1 unit.directives modules
 
 -- The headline: the bytes stand for a unit, by this relation, and the text checks each unit for which they stand.
 pub record IsCompiled (stands_for : List ℕ → PslUnit → Type 0) (bytes text : List ℕ) : Type 0 where

@@ -21,7 +21,8 @@ pub fn negation_checks_always()
     always_is_violated();
 }
 
-/// The checker has a run from reset over each trace, and for any values of `mbac_eot`, so the law above speaks of something.
+/// The checker has a run from reset over each trace, and for any values of `mbac_eot`, so the law above speaks of
+/// something.
 pub fn negation_checker_runs()
     ensures { (name : List ℕ) (port : Signal) (trace : List Valuation) (eots : List ℕ) → length eots ≡ length trace →
         (reset : Cycle) × (cycles : List Cycle) ×

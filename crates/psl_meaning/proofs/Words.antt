@@ -3,7 +3,8 @@ use Rattle.std.proofs.Common.{◌≡◌, ℕ, zero, suc, List, [], ◌∷◌, Op
 use Rattle.std.specs.Prelude.{slice_get, option_map, IsSome}
 use Rattle.std.proofs.lemmas.List.{drop-map}
 use Rattle.std.proofs.lemmas.Option.{slice_get-map}
-use Rattle.psl_meaning.specs.Word.{Letter, valuation, top, bottom, Ending, ended, tops, bottoms, Word, bar_letter, bar_ending, bar, from, letter_at, option_or, after_end, Reaches}
+use Rattle.psl_meaning.specs.Word.{Letter, valuation, top, bottom, Ending, ended, tops, bottoms, Word, bar_letter}
+use Rattle.psl_meaning.specs.Word.{bar_ending, bar, from, letter_at, option_or, after_end, Reaches}
 
 pub bar_letter-bar_letter : (a : Letter) → bar_letter (bar_letter a) ≡ a
 bar_letter-bar_letter (valuation values) = refl
@@ -42,12 +43,15 @@ after_end-bar ended = refl
 after_end-bar tops = refl
 after_end-bar bottoms = refl
 
-or-bar : (o p : Option Letter) → option_or (option_map bar_letter o) (option_map bar_letter p) ≡ option_map bar_letter (option_or o p)
+or-bar : (o p : Option Letter) → option_or (option_map bar_letter o) (option_map bar_letter p) ≡ option_map bar_letter
+    (option_or o p)
 or-bar (Some a) p = refl
 or-bar None p = refl
 
 pub letter_at-bar : (w : Word) (k : ℕ) → letter_at (bar w) k ≡ option_map bar_letter (letter_at w k)
-letter_at-bar w k = rw (slice_get-map bar_letter w.letters k, after_end-bar w.ending) (or-bar (slice_get w.letters k) (after_end w.ending))
+letter_at-bar w k =
+    rw (slice_get-map bar_letter w.letters k, after_end-bar w.ending)
+    (or-bar (slice_get w.letters k) (after_end w.ending))
 
 is_some-bar : (o : Option Letter) → IsSome (option_map bar_letter o) → IsSome o
 is_some-bar (Some a) h = refl

@@ -1,5 +1,5 @@
--- Formulas and the words that satisfy them, after IEEE 1850-2010, Annex B. Weak sequences and `abort` are this project's
--- own readings, for words that a simulation may cut off.
+-- Formulas and the words that satisfy them, after IEEE 1850-2010, Annex B. Weak sequences and `abort` are this
+-- project's own readings, for words that a simulation may cut off.
 use Rattle.std.specs.Prelude.{◌⊎◌, ℕ, suc, ◌<◌, List, IfSome, IsSomeAnd}
 use Rattle.psl_model.specs.Expr.{Expr}
 use Rattle.psl_meaning.specs.Word.{Word, with_tops, letter_at, Reaches, first, from, bar}
@@ -35,8 +35,12 @@ Satisfies widths (strong r) w = SomePrefix widths r w
 Satisfies widths (weak r) w = (n : ℕ) → Reaches w n → SomePrefix widths r (with_tops (first (suc n) w))
 Satisfies widths (strong_next f) w = Reaches w 1 × Satisfies widths f (from 1 w)
 -- g at some place, and f at each place before it
-Satisfies widths (strong_until f g) w = (k : ℕ) × Reaches w k × Satisfies widths g (from k w) × ((j : ℕ) → j < k → Satisfies widths f (from j w))
+Satisfies widths (strong_until f g) w = (k : ℕ) × Reaches w k × Satisfies widths g (from k w) ×
+    ((j : ℕ) → j < k → Satisfies widths f (from j w))
 -- f, or some letter satisfies the expression and f isn't violated before it
-Satisfies widths (abort f on) w = Satisfies widths f w ⊎ ((j : ℕ) × IsSomeAnd (letter_at w j) (Holds widths on) × Satisfies widths f (with_tops (first j w)))
+Satisfies widths (abort f on) w =
+    Satisfies widths f w ⊎
+    ((j : ℕ) × IsSomeAnd (letter_at w j) (Holds widths on) × Satisfies widths f (with_tops (first j w)))
 -- f from each place at which a prefix that tightly satisfies the sequence ends
-Satisfies widths (suffix r f) w = (j : ℕ) → Reaches w j → Tight widths r (first (suc j) (bar w)) → Satisfies widths f (from j w)
+Satisfies widths (suffix r f) w = (j : ℕ) → Reaches w j → Tight widths r (first (suc j) (bar w)) →
+    Satisfies widths f (from j w)

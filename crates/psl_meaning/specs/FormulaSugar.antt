@@ -1,5 +1,5 @@
--- What each formula of PSL stands for, after IEEE 1850-2010, Annex B (sugar of FL formulas). `never` and `eventually!` over a
--- sequence and the overlapping `before` forms are this project's own readings.
+-- What each formula of PSL stands for, after IEEE 1850-2010, Annex B (sugar of FL formulas). `never` and `eventually!`
+-- over a sequence and the overlapping `before` forms are this project's own readings.
 use Rattle.std.specs.Prelude.{ℕ, zero, suc, ◌+◌, ◌-◌, Bool, true, false}
 use Rattle.psl_model.specs.Expr.{Expr}
 use Rattle.psl_model.specs.Formula as formula
@@ -7,7 +7,8 @@ use Rattle.psl_model.specs.declared.formulas.Reach.{Reach}
 use Rattle.psl_model.specs.declared.formulas.Reach.TheVariants as reach
 use Rattle.psl_meaning.specs.Sequence as sequence
 use Rattle.psl_meaning.specs.SequenceSugar.{always_true, core_of}
-use Rattle.psl_meaning.specs.Formula.{CoreFormula, bool, not, and, strong, weak, strong_next, strong_until, abort, suffix}
+use Rattle.psl_meaning.specs.Formula.{CoreFormula, bool, not, and, strong, weak, strong_next, strong_until, abort}
+use Rattle.psl_meaning.specs.Formula.{suffix}
 
 abbrev pub or : CoreFormula → CoreFormula → CoreFormula
 or f g = not (and (not f) (not g))
@@ -79,11 +80,13 @@ core_formula_of (formula.not f) = not (core_formula_of f)
 core_formula_of (formula.and f g) = and (core_formula_of f) (core_formula_of g)
 core_formula_of (formula.or f g) = or (core_formula_of f) (core_formula_of g)
 core_formula_of (formula.implies f g) = implies (core_formula_of f) (core_formula_of g)
-core_formula_of (formula.iff f g) = and (implies (core_formula_of f) (core_formula_of g)) (implies (core_formula_of g) (core_formula_of f))
+core_formula_of (formula.iff f g) =
+    and (implies (core_formula_of f) (core_formula_of g)) (implies (core_formula_of g) (core_formula_of f))
 core_formula_of (formula.seq r s) = sequence_by s (core_of r)
 core_formula_of (formula.suffix r false f) = suffix (core_of r) (core_formula_of f)
 -- r |=> f is {r;true} |-> f
-core_formula_of (formula.suffix r true f) = suffix (sequence.concat (core_of r) (sequence.bool always_true)) (core_formula_of f)
+core_formula_of (formula.suffix r true f) =
+    suffix (sequence.concat (core_of r) (sequence.bool always_true)) (core_formula_of f)
 core_formula_of (formula.always f) = everywhere (core_formula_of f)
 -- a sequence under `never` or `eventually!` is taken as strong
 core_formula_of (formula.never (formula.seq r s)) = everywhere (not (strong (core_of r)))
@@ -91,11 +94,14 @@ core_formula_of (formula.never f) = everywhere (not (core_formula_of f))
 core_formula_of (formula.eventually (formula.seq r s)) = somewhere (strong (core_of r))
 core_formula_of (formula.eventually f) = somewhere (core_formula_of f)
 core_formula_of (formula.next s reach low high f) = over_reach reach (λ k. next_times s k (core_formula_of f)) low high
-core_formula_of (formula.event b s reach low high f) = over_reach reach (λ k. event_times s b k (core_formula_of f)) low high
+core_formula_of (formula.event b s reach low high f) =
+    over_reach reach (λ k. event_times s b k (core_formula_of f)) low high
 -- with the overlap f holds in the cycle of g too
 core_formula_of (formula.until s false f g) = until_by s (core_formula_of f) (core_formula_of g)
-core_formula_of (formula.until s true f g) = until_by s (core_formula_of f) (and (core_formula_of f) (core_formula_of g))
+core_formula_of (formula.until s true f g) =
+    until_by s (core_formula_of f) (and (core_formula_of f) (core_formula_of g))
 -- without the overlap f comes in an earlier cycle than g
-core_formula_of (formula.before s false f g) = until_by s (not (core_formula_of g)) (and (core_formula_of f) (not (core_formula_of g)))
+core_formula_of (formula.before s false f g) =
+    until_by s (not (core_formula_of g)) (and (core_formula_of f) (not (core_formula_of g)))
 core_formula_of (formula.before s true f g) = until_by s (not (core_formula_of g)) (core_formula_of f)
 core_formula_of (formula.abort f on) = abort (core_formula_of f) on

@@ -34,7 +34,8 @@ Tight widths empty w = w ≡ []
 -- a list of the one and then a list of the other
 Tight widths (concat r s) w = (u v : List Letter) × (w ≡ u ++ v) × Tight widths r u × Tight widths s v
 -- the two lists overlap in exactly one letter
-Tight widths (fuse r s) w = (u v : List Letter) × (a : Letter) × (w ≡ u ++ a ∷ v) × Tight widths r (u ++ a ∷ []) × Tight widths s (a ∷ v)
+Tight widths (fuse r s) w = (u v : List Letter) × (a : Letter) × (w ≡ u ++ a ∷ v) × Tight widths r (u ++ a ∷ []) ×
+    Tight widths s (a ∷ v)
 Tight widths (or r s) w = Tight widths r w ⊎ Tight widths s w
 Tight widths (both r s) w = Tight widths r w × Tight widths s w
 -- none, one or several lists of it, one after the other

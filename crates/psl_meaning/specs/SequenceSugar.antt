@@ -41,7 +41,8 @@ core_of (sere.fuse r s) = fuse (core_of r) (core_of s)
 core_of (sere.or r s) = or (core_of r) (core_of s)
 core_of (sere.both r s) = both (core_of r) (core_of s)
 -- r & s: both begin together, and the longer one ends last
-core_of (sere.meet r s) = or (both (core_of r) (concat (core_of s) anything)) (both (concat (core_of r) anything) (core_of s))
+core_of (sere.meet r s) =
+    or (both (core_of r) (concat (core_of s) anything)) (both (concat (core_of r) anything) (core_of s))
 core_of (sere.within r s) = both (concat (concat anything (core_of r)) anything) (core_of s)
 core_of (sere.repeat r low high) = repeated low high (core_of r)
 core_of (sere.goto b low high) = repeated low high (next_with b)

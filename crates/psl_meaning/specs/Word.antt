@@ -4,7 +4,8 @@
 --     first n w           the first n letters, fewer where w ends before
 --     from n w            the suffix from place n on
 --     bar w               w with tops and bottoms exchanged
-use Rattle.std.specs.Prelude.{ℕ, ◌-◌, List, [], ◌++◌, Option, Some, None, IsSome, map, take, drop, length, replicate, slice_get}
+use Rattle.std.specs.Prelude.{ℕ, ◌-◌, List, [], ◌++◌, Option, Some, None, IsSome, map, take, drop, length, replicate}
+use Rattle.std.specs.Prelude.{slice_get}
 
 -- the value of each signal, by its place
 abbrev pub Valuation : Type 0

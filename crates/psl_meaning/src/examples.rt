@@ -6,7 +6,9 @@ ghost use Rattle.psl_meaning.specs.Word.{Valuation, valuation, top, bottom};
 ghost use Rattle.psl_meaning.specs.Sequence.{bool, Holds, Tight};
 ghost use Rattle.psl_meaning.specs.SequenceSugar.{always_true, core_of};
 ghost use Rattle.psl_meaning.specs.Violation.{WeaklyViolates, Violates};
-ghost use Rattle.psl_meaning.specs.Examples.{widths, always_false, always_a, a_then_false, a_until_b, strong_next_b, weak_next_b, abort_outside, abort_inside, second_a, one_a_then_b, trace_of_a, trace_of_both};
+ghost use Rattle.psl_meaning.specs.Examples.{widths, always_false, always_a, a_then_false, a_until_b, strong_next_b};
+ghost use Rattle.psl_meaning.specs.Examples.{weak_next_b, abort_outside, abort_inside, second_a, one_a_then_b};
+ghost use Rattle.psl_meaning.specs.Examples.{trace_of_a, trace_of_both};
 
 /// Top satisfies each Boolean, and so a list of one top tightly satisfies each, `false` included.
 pub fn a_top_satisfies_false()
@@ -70,6 +72,8 @@ pub fn a_goto_ends_at_its_last_count()
 
 /// `a[=1];b` is a list with one `a` and then a `b`, where letters without `a` may stand between; not one with two.
 pub fn an_equal_count_goes_on_to_the_next()
-    ensures of_one { Tight widths (core_of one_a_then_b) (map valuation (trace_of_both (0 ∷ 1 ∷ 0 ∷ 0 ∷ []) (0 ∷ 0 ∷ 0 ∷ 1 ∷ []))) }
-    ensures not_of_two { ¬ Tight widths (core_of one_a_then_b) (map valuation (trace_of_both (1 ∷ 1 ∷ 0 ∷ []) (0 ∷ 0 ∷ 1 ∷ []))) }
+    ensures of_one { Tight widths (core_of one_a_then_b)
+        (map valuation (trace_of_both (0 ∷ 1 ∷ 0 ∷ 0 ∷ []) (0 ∷ 0 ∷ 0 ∷ 1 ∷ []))) }
+    ensures not_of_two { ¬ Tight widths (core_of one_a_then_b)
+        (map valuation (trace_of_both (1 ∷ 1 ∷ 0 ∷ []) (0 ∷ 0 ∷ 1 ∷ []))) }
 {}

@@ -1,10 +1,12 @@
 //! Laws of words and formulas. The functions do nothing: each contract is the law.
 
-ghost use Rattle.std.specs.Prelude.{◌≡◌, ◌≢◌, ◌↔◌, ◌<◌, ◌≤◌, ◌++◌, ◌⊎◌, ℕ, List, [], Some, None, Any, drop, length, map, slice_get};
+ghost use Rattle.std.specs.Prelude.{◌≡◌, ◌≢◌, ◌↔◌, ◌<◌, ◌≤◌, ◌++◌, ◌⊎◌, ℕ, List, [], Some, None, Any, drop, length};
+ghost use Rattle.std.specs.Prelude.{map, slice_get};
 ghost use Rattle.psl_model.specs.Expr.{Expr};
 ghost use Rattle.psl_model.specs.Formula.{Formula, bool, always};
 ghost use Rattle.psl_model.specs.Value.{own_value};
-ghost use Rattle.psl_meaning.specs.Word.{Valuation, Letter, Word, bar, finite, with_tops, from, letter_at, Reaches, valuation, top};
+ghost use Rattle.psl_meaning.specs.Word.{Valuation, Letter, Word, bar, finite, with_tops, from, letter_at, Reaches};
+ghost use Rattle.psl_meaning.specs.Word.{valuation, top};
 ghost use Rattle.psl_meaning.specs.Sequence.{CoreSere, star, Copies, Tight};
 ghost use Rattle.psl_meaning.specs.SequenceSugar.{repeated};
 ghost use Rattle.psl_meaning.specs.Formula.{CoreFormula, Satisfies};
@@ -33,14 +35,15 @@ pub fn an_ended_word_is_the_trace()
         slice_get trace k ≡ Some values → letter_at (finite (map valuation trace)) k ≡ Some (valuation values) }
 {}
 
-/// `r[*]` is empty, or a non-empty list of `r` and then one of `r[*]`. `r[*low:high]` is so many copies of `r`, at least
-/// `low` and at most `high`, one after the other; `r[*low:inf]` at least `low`.
+/// `r[*]` is empty, or a non-empty list of `r` and then one of `r[*]`. `r[*low:high]` is so many copies of `r`, at
+/// least `low` and at most `high`, one after the other; `r[*low:inf]` at least `low`.
 pub fn a_repetition_is_a_number_of_copies()
     ensures unfolds { (widths : List ℕ) (r : CoreSere) (w : List Letter) →
         Tight widths (star r) w
         ↔ ((w ≡ []) ⊎ ((u v : List Letter) × (w ≡ u ++ v) × (u ≢ []) × Tight widths r u × Tight widths (star r) v)) }
     ensures between { (widths : List ℕ) (r : CoreSere) (low high : ℕ) (w : List Letter) →
-        low ≤ high → Tight widths (repeated low (Some high) r) w ↔ ((k : ℕ) × (low ≤ k) × (k ≤ high) × Copies (Tight widths r) k w) }
+        low ≤ high → Tight widths (repeated low (Some high) r) w ↔
+        ((k : ℕ) × (low ≤ k) × (k ≤ high) × Copies (Tight widths r) k w) }
     ensures at_least { (widths : List ℕ) (r : CoreSere) (low : ℕ) (w : List Letter) →
         Tight widths (repeated low None r) w ↔ ((k : ℕ) × (low ≤ k) × Copies (Tight widths r) k w) }
 {}

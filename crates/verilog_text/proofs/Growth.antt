@@ -3,7 +3,8 @@ use Rattle.std.proofs.Common.{ℕ, List, [], ◌++◌, ap, ◌∙◌, append_ass
 use Rattle.std.proofs.lemmas.List.{append-nil}
 use Rattle.verilog_text.specs.Growth.{Extends}
 
-pub extends_twice : (before between after : List ℕ) → Extends before between → Extends between after → Extends before after
+pub extends_twice : (before between after : List ℕ) → Extends before between → Extends between after →
+    Extends before after
 extends_twice before between after first second = record {
   rest = first.rest ++ second.rest;
   gained = second.gained ∙ ap (λ bytes. bytes ++ second.rest) first.gained ∙ append_assoc before first.rest second.rest;

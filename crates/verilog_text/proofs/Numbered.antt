@@ -1,5 +1,6 @@
 -- A list of numbered items, item by item.
-use Rattle.std.proofs.Common.{◌≡◌, ℕ, suc, ◌+◌, ◌<◌, List, [], ◌∷◌, ◌++◌, map, length, take, get_or, ap, sym, ◌∙◌, arith, append_assoc, add-one}
+use Rattle.std.proofs.Common.{◌≡◌, ℕ, suc, ◌+◌, ◌<◌, List, [], ◌∷◌, ◌++◌, map, length, take, get_or, ap, sym, ◌∙◌}
+use Rattle.std.proofs.Common.{arith, append_assoc, add-one}
 use Rattle.std.proofs.lemmas.List.{append-nil, map-append}
 use Rattle.std.proofs.lemmas.Grind.{common_steps}
 use Rattle.std.proofs.Math.Seq.{take-suc}
@@ -15,7 +16,8 @@ each_numbered-more f from (y ∷ ys) x n e =
     ∙ sym (append_assoc (f from y) (each_numbered f (suc from) ys) (f n x))
 
 -- one more item of the list
-pub one_more : {X Y : Type 0} (f : ℕ → Y → List ℕ) (g : X → Y) (xs : List X) (i : ℕ) (x : X) → i < length xs → get_or xs i x ≡ x →
+pub one_more : {X Y : Type 0} (f : ℕ → Y → List ℕ) (g : X → Y) (xs : List X) (i : ℕ) (x : X) → i < length xs →
+    get_or xs i x ≡ x →
     each_numbered f 0 (map g (take (suc i) xs)) ≡ each_numbered f 0 (map g (take i xs)) ++ f i (g x)
 one_more {X} {Y} f g xs i x lt is =
     ap (λ (ys : List X). each_numbered f 0 (map g ys)) (take-suc xs i x lt)
@@ -24,8 +26,10 @@ one_more {X} {Y} f g xs i x lt is =
     ∙ ap (λ (y : X). each_numbered f 0 (map g (take i xs)) ++ f i (g y)) is
 
 -- bytes that had the first items gain the next one
-pub gain_one : {X Y : Type 0} (f : ℕ → Y → List ℕ) (g : X → Y) (xs : List X) (i : ℕ) (x : X) (first before after : List ℕ) →
-    i < length xs → x ≡ get_or xs i x → before ≡ first ++ each_numbered f 0 (map g (take i xs)) → after ≡ before ++ f i (g x) →
+pub gain_one : {X Y : Type 0} (f : ℕ → Y → List ℕ) (g : X → Y) (xs : List X) (i : ℕ) (x : X)
+    (first before after : List ℕ) →
+    i < length xs → x ≡ get_or xs i x → before ≡ first ++ each_numbered f 0 (map g (take i xs)) →
+    after ≡ before ++ f i (g x) →
     after ≡ first ++ each_numbered f 0 (map g (take (i + 1) xs))
 gain_one f g xs i x first before after lt is had gains =
     gains ∙ ap (λ (t : List ℕ). t ++ f i (g x)) had

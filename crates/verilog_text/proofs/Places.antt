@@ -1,10 +1,12 @@
 -- The name at each place of a module's table.
-use Rattle.std.proofs.Common.{◌≡◌, ℕ, zero, suc, ◌+◌, ◌-◌, ◌<◌, ◌≤◌, List, [], ◌∷◌, ◌++◌, map, length, refl, ap, ◌∙◌, arith, Some, None, append_assoc}
+use Rattle.std.proofs.Common.{◌≡◌, ℕ, zero, suc, ◌+◌, ◌-◌, ◌<◌, ◌≤◌, List, [], ◌∷◌, ◌++◌, map, length, refl, ap, ◌∙◌}
+use Rattle.std.proofs.Common.{arith, Some, None, append_assoc}
 use Rattle.std.proofs.lemmas.List.{length-map, length-append}
 use Rattle.std.specs.Prelude.{slice_get, decimal, codes}
 use Rattle.psl_model.specs.declared.names.Signal.{Signal}
 use Rattle.verilog_text.specs.declared.module.Module as code
-use Rattle.verilog_text.specs.Module.{numbered_names, register_stem, wire_stem, port_names, register_names, wire_names, names_of}
+use Rattle.verilog_text.specs.Module.{numbered_names, register_stem, wire_stem, port_names, register_names, wire_names}
+use Rattle.verilog_text.specs.Module.{names_of}
 use Rattle.verilog_text.specs.View.{module_of, register_of, wire_of}
 use Rattle.verilog_text.specs.Text.{name_at, register_name, wire_name}
 
@@ -13,26 +15,31 @@ first_part [] ys place lt = absurd (omega arith)
 first_part (x ∷ xs) ys zero lt = refl
 first_part (x ∷ xs) ys (suc place) lt = let lower : place < length xs = omega arith in first_part xs ys place lower
 
-second_part : (xs ys : List (List ℕ)) (place rest : ℕ) → place ≡ length xs + rest → name_at (xs ++ ys) place ≡ name_at ys rest
+second_part : (xs ys : List (List ℕ)) (place rest : ℕ) → place ≡ length xs + rest →
+    name_at (xs ++ ys) place ≡ name_at ys rest
 second_part [] ys place rest e = let same : place ≡ rest = omega arith in ap (name_at ys) same
 second_part (x ∷ xs) ys zero rest e = absurd (omega arith)
-second_part (x ∷ xs) ys (suc place) rest e = let lower : place ≡ length xs + rest = omega arith in second_part xs ys place rest lower
+second_part (x ∷ xs) ys (suc place) rest e = let lower : place ≡ length xs + rest = omega arith in
+    second_part xs ys place rest lower
 
 past_the_end : (xs : List (List ℕ)) (place : ℕ) → length xs ≤ place → name_at xs place ≡ []
 past_the_end [] place le = refl
 past_the_end (x ∷ xs) zero le = absurd (omega arith)
 past_the_end (x ∷ xs) (suc place) le = let lower : length xs ≤ place = omega arith in past_the_end xs place lower
 
-port_in : (ports : List Signal) (place : ℕ) (port : Signal) (names : List (List ℕ)) → slice_get ports place ≡ Some port →
+port_in : (ports : List Signal) (place : ℕ) (port : Signal) (names : List (List ℕ)) →
+    slice_get ports place ≡ Some port →
     name_at (map (λ (p : Signal). p.name) ports ++ names) place ≡ port.name
 port_in [] place port names e = cc
 port_in (p ∷ ports) zero port names e = let same : p ≡ port = cc in ap (λ (q : Signal). q.name) same
 port_in (p ∷ ports) (suc place) port names e = port_in ports place port names e
 
-numbered_in : {X : Type 0} (stem : List ℕ) (from : ℕ) (xs : List X) (place number : ℕ) → number ≡ from + place → place < length xs →
+numbered_in : {X : Type 0} (stem : List ℕ) (from : ℕ) (xs : List X) (place number : ℕ) → number ≡ from + place →
+    place < length xs →
     name_at (numbered_names stem from xs) place ≡ stem ++ decimal number
 numbered_in stem from [] place number e lt = absurd (omega arith)
-numbered_in stem from (x ∷ xs) zero number e lt = let same : from ≡ number = omega arith in ap (λ (n : ℕ). stem ++ decimal n) same
+numbered_in stem from (x ∷ xs) zero number e lt = let same : from ≡ number = omega arith in
+    ap (λ (n : ℕ). stem ++ decimal n) same
 numbered_in stem from (x ∷ xs) (suc place) number e lt =
     let lower : place < length xs = omega arith in
     let same : number ≡ suc from + place = omega arith in
@@ -48,10 +55,10 @@ registers_of m = how_many register_stem 0 (map register_of m.regs) ∙ length-ma
 wires_of : (m : code.Module) → length (wire_names (module_of m)) ≡ length m.wires
 wires_of m = how_many wire_stem 0 (map wire_of m.wires) ∙ length-map m.wires wire_of
 
-pub register_at : (m : code.Module) (place : ℕ) → place < length m.regs →
+pub reg_at : (m : code.Module) (place : ℕ) → place < length m.regs →
     name_at (register_names (module_of m) ++ wire_names (module_of m)) place ≡ register_name place
 unfolding register_name
-register_at m place lt =
+reg_at m place lt =
     let below : place < length (register_names (module_of m)) = omega (arith, registers_of m) in
     let listed : place < length (map register_of m.regs) = omega (arith, length-map m.regs register_of) in
     first_part (register_names (module_of m)) (wire_names (module_of m)) place below
@@ -76,15 +83,18 @@ none_at m place le =
 pub port_at : (m : code.Module) (place : ℕ) (port : Signal) → slice_get m.ports place ≡ Some port →
     name_at (port_names (module_of m) ++ register_names (module_of m) ++ wire_names (module_of m)) place ≡ port.name
 port_at m place port found =
-    ap (λ names. name_at names place) (append_assoc (port_names (module_of m)) (register_names (module_of m)) (wire_names (module_of m)))
+    ap (λ names. name_at names place)
+    (append_assoc (port_names (module_of m)) (register_names (module_of m)) (wire_names (module_of m)))
     ∙ port_in m.ports place port (register_names (module_of m) ++ wire_names (module_of m)) found
 
 pub numbered_at : (m : code.Module) (place : ℕ) → length m.ports ≤ place →
     name_at (port_names (module_of m) ++ register_names (module_of m) ++ wire_names (module_of m)) place
     ≡ name_at (register_names (module_of m) ++ wire_names (module_of m)) (place - length m.ports)
 numbered_at m place le =
-    ap (λ names. name_at names place) (append_assoc (port_names (module_of m)) (register_names (module_of m)) (wire_names (module_of m)))
-    ∙ second_part (port_names (module_of m)) (register_names (module_of m) ++ wire_names (module_of m)) place (place - length m.ports)
+    ap (λ names. name_at names place)
+    (append_assoc (port_names (module_of m)) (register_names (module_of m)) (wire_names (module_of m)))
+    ∙ second_part (port_names (module_of m)) (register_names (module_of m) ++ wire_names (module_of m)) place
+    (place - length m.ports)
     (omega (arith, length-map m.ports (λ (p : Signal). p.name)))
 
 -- a look-up that finds nothing is past the end
@@ -101,10 +111,11 @@ pub end_at : (m : code.Module) → name_at (names_of (module_of m)) 1 ≡ codes 
 unfolding names_of
 end_at m = refl
 
-pub declared_at : (m : code.Module) (place : ℕ) → 2 ≤ place →
+pub other_at : (m : code.Module) (place : ℕ) → 2 ≤ place →
     name_at (names_of (module_of m)) place
     ≡ name_at (port_names (module_of m) ++ register_names (module_of m) ++ wire_names (module_of m)) (place - 2)
 unfolding names_of
-declared_at m zero le = absurd (omega arith)
-declared_at m (suc zero) le = absurd (omega arith)
-declared_at m (suc (suc place)) le = let same : place ≡ suc (suc place) - 2 = omega arith in ap (name_at (port_names (module_of m) ++ register_names (module_of m) ++ wire_names (module_of m))) same
+other_at m zero le = absurd (omega arith)
+other_at m (suc zero) le = absurd (omega arith)
+other_at m (suc (suc place)) le = let same : place ≡ suc (suc place) - 2 = omega arith in
+    ap (name_at (port_names (module_of m) ++ register_names (module_of m) ++ wire_names (module_of m))) same

@@ -1,5 +1,6 @@
 -- The small checker is lawful, and its output is the negation of its port.
-use Rattle.std.proofs.Common.{◌≡◌, ℕ, zero, suc, ◌%◌, ◌^◌, ◌++◌, Bool, true, List, [], ◌∷◌, refl, ap, ◌∙◌, arith, get_or}
+use Rattle.std.proofs.Common.{◌≡◌, ℕ, zero, suc, ◌%◌, ◌^◌, ◌++◌, Bool, true, List, [], ◌∷◌, refl, ap, ◌∙◌, arith}
+use Rattle.std.proofs.Common.{get_or}
 use Rattle.std.specs.Prelude.{◌≢◌, ◌==◌, not, bytes_eq, Contains, codes, All, AllPairs, IfSome, slice_get}
 use Rattle.std.specs.List.{list_all}
 use Rattle.std.proofs.lemmas.List.Elements.{All-contains}
@@ -25,7 +26,8 @@ is_another word = not (bytes_eq word (codes "a"))
 not_among : (words : List (List ℕ)) → list_all is_another words ≡ true → ¬ Contains words (codes "a")
 not_among words others found =
     let each = AllPass-from_list_all is_another words others in
-    let refused : is_another (codes "a") ≡ true = All-contains (λ (word : List ℕ). is_another word ≡ true) words (codes "a") each found in
+    let refused : is_another (codes "a") ≡ true =
+    All-contains (λ (word : List ℕ). is_another word ≡ true) words (codes "a") each found in
     cc
 
 no_language_word : list_all is_another language_words ≡ true
@@ -51,8 +53,17 @@ usable = record {
 }
 
 wires : (place : ℕ) → IfSome (slice_get small_checker.wires place) (IsWire small_checker place)
-wires zero = record { width = (omega arith, omega arith); value = record { valid = omega arith; narrow = omega arith; shallow = omega arith } }
-wires (suc zero) = record { width = (omega arith, omega arith); value = record { valid = omega arith; narrow = omega arith; shallow = omega arith } }
+wires zero = record {
+  width = (omega arith, omega arith);
+  value =
+      record { valid = omega arith; narrow = omega arith; shallow = omega arith };
+}
+wires (suc zero) =
+    record {
+      width = (omega arith, omega arith);
+      value =
+          record { valid = omega arith; narrow = omega arith; shallow = omega arith };
+    }
 wires (suc (suc place)) = tt
 
 pub lawful : IsLawful small_checker
@@ -60,7 +71,8 @@ lawful = record {
   identifier = (refl, refl);
   prefix = refl;
   report = tt;
-  ports = one IsPort (record { name = codes "a"; width = 1 }) (record { name = usable; width = (omega arith, omega arith) });
+  ports = one IsPort (record { name = codes "a"; width = 1 })
+      (record { name = usable; width = (omega arith, omega arith) });
   distinct = one_alone (λ p q. p ≢ q) (codes "a");
   registers = one (IsRegister small_checker) _ (record {
     width = (omega arith, omega arith);
@@ -82,7 +94,8 @@ output c a r port register settled =
     let any : ℕ = bit_of (not (at c.ports c.registers c.wires 0 == 0)) % 2 ^ 1 in
     let none : ℕ = bit_of (at c.ports c.registers c.wires 2 == 0) % 2 ^ 1 in
     let wires : c.wires ≡ any ∷ none ∷ [] = settled.wires in
-    let any_is : any ≡ bit_of (not (a == 0)) % 2 ^ 1 = ap (λ (ports : List ℕ). bit_of (not (at ports c.registers c.wires 0 == 0)) % 2 ^ 1) port in
+    let any_is : any ≡ bit_of (not (a == 0)) % 2 ^ 1 =
+    ap (λ (ports : List ℕ). bit_of (not (at ports c.registers c.wires 0 == 0)) % 2 ^ 1) port in
     let none_is : none ≡ bit_of (any == 0) % 2 ^ 1 =
     ap (λ (ports : List ℕ). bit_of (at ports c.registers c.wires 2 == 0) % 2 ^ 1) port
     ∙ ap (λ (registers : List ℕ). bit_of (at (a ∷ []) registers c.wires 2 == 0) % 2 ^ 1) register
@@ -94,7 +107,8 @@ output c a r port register settled =
     ∙ ap (λ (n : ℕ). n % 2 ^ 1) none_is
     ∙ ap (λ (n : ℕ). bit_of (n == 0) % 2 ^ 1 % 2 ^ 1) any_is
 
-pub stream : (eots : List ℕ) (reset : Cycle) (cycles : List Cycle) → IsRunFromReset small_checker one_then_zero eots reset cycles →
+pub stream : (eots : List ℕ) (reset : Cycle) (cycles : List Cycle) →
+    IsRunFromReset small_checker one_then_zero eots reset cycles →
     fail_stream cycles ≡ 0 ∷ 1 ∷ []
 stream (e ∷ f ∷ []) reset (c ∷ d ∷ []) run =
     let first = output c 1 _ run.goes_on.0.ports run.run.1 run.run.2.0 in

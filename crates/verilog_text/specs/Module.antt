@@ -2,7 +2,8 @@
 --     names_of m      the table of names: `mbac_rst`, `mbac_eot`, then the ports, the registers and the wires
 --     widths_of m     their widths, in the same order
 --     IsLawful m      the module has a text
-use Rattle.std.specs.Prelude.{◌≡◌, ◌≢◌, ℕ, suc, ◌<◌, ◌≤◌, ◌^◌, true, List, [], ◌∷◌, ◌++◌, map, take, slice_get, codes, decimal, Option, IfSome, AllPairs, All, nat_eq}
+use Rattle.std.specs.Prelude.{◌≡◌, ◌≢◌, ℕ, suc, ◌<◌, ◌≤◌, ◌^◌, true, List, [], ◌∷◌, ◌++◌, map, take, slice_get, codes}
+use Rattle.std.specs.Prelude.{decimal, Option, IfSome, AllPairs, All, nat_eq}
 use Rattle.std.specs.List.{starts_with}
 use Rattle.psl_model.specs.declared.names.Signal.{Signal}
 use Rattle.psl_model.specs.Expr.{Expr}

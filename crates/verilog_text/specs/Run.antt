@@ -1,7 +1,8 @@
--- What a checker module does, after IEEE 1364-2005: continuous assignment (6.1), nonblocking assignment at a clock edge (9.2) and
--- the sizes of assignments (5.4). A run is a list of cycles that meet equations; no order of evaluation is named.
+-- What a checker module does, after IEEE 1364-2005: continuous assignment (6.1), nonblocking assignment at a clock edge
+-- (9.2) and the sizes of assignments (5.4). A run is a list of cycles that meet equations; no order of evaluation is
+-- named.
 --     IsRun m cycles                    the cycles are a run of the module
---     IsRunFromReset m inputs eots reset cycles     a run from any registers: a cycle of reset, then the cycles of the inputs
+--     IsRunFromReset m inputs eots reset cycles     a run from any registers: a cycle of reset, then one for each input
 --     fail_stream cycles                the output, cycle by cycle
 --     RisesBy stream n                  the output is 1 in some cycle up to n
 use Rattle.std.specs.Prelude.{◌≡◌, ℕ, ◌<◌, ◌≤◌, ◌^◌, ◌%◌, max, List, [], ◌∷◌, ◌++◌, map, slice_get, Some}
@@ -10,7 +11,7 @@ use Rattle.psl_model.specs.Expr.{Expr, whole, sized, choice}
 use Rattle.psl_model.specs.Value.{width_of, value_of}
 use Rattle.verilog_text.specs.Module.{Module, Register, Wire, widths_of}
 
--- the values of one cycle: of the inputs `mbac_rst`, `mbac_eot` and the ports, of the registers and wires, and of the output
+-- the values of one cycle: of `mbac_rst`, `mbac_eot` and the ports, of the registers and wires, and of the output
 pub record Cycle : Type 0 where
   pub reset : ℕ
   pub end_of_execution : ℕ
@@ -23,7 +24,7 @@ pub record Cycle : Type 0 where
 abbrev pub values_of : Cycle → List ℕ
 values_of c = c.reset ∷ c.end_of_execution ∷ c.ports ++ c.registers ++ c.wires
 
--- what a target of this width takes of a right side in a cycle: the value at the larger of both widths, cut to the target's
+-- what a target of this width takes of a right side: the value at the larger of both widths, cut to the target's
 abbrev pub assigned : Module → Cycle → (width : ℕ) → Expr → ℕ
 assigned m c width e = value_of (widths_of m) (values_of c) (max width (width_of (widths_of m) e)) e % 2 ^ width
 
@@ -72,7 +73,8 @@ pub record IsResetCycle (m : Module) (c : Cycle) : Type 0 where
   pub registers : FitWidths (map (λ (r : Register). r.width) m.registers) c.registers
 
 -- one cycle of reset, and then a cycle for each of the inputs
-pub record IsRunFromReset (m : Module) (inputs : List (List ℕ)) (eots : List ℕ) (reset : Cycle) (cycles : List Cycle) : Type 0 where
+pub record IsRunFromReset (m : Module) (inputs : List (List ℕ)) (eots : List ℕ) (reset : Cycle) (cycles : List Cycle) :
+    Type 0 where
   pub run : IsRun m (reset ∷ cycles)
   pub begins : IsResetCycle m reset
   pub goes_on : HaveInputs inputs eots cycles

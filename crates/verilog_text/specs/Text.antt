@@ -1,12 +1,14 @@
 -- The one spelling of a checker module, in IEEE 1364-2005 text: this project's own format, line by line.
 --     spelling m                  the module's text
 --     StandsForModules text ms    the bytes are a checker text, and these are its modules
-use Rattle.std.specs.Prelude.{◌≡◌, ◌≢◌, ℕ, zero, suc, ◌-◌, List, [], ◌∷◌, ◌++◌, map, codes, decimal, Option, Some, None, if◌then◌else◌, ◌==◌, All, AllPairs, flat_map}
+use Rattle.std.specs.Prelude.{◌≡◌, ◌≢◌, ℕ, zero, suc, ◌-◌, List, [], ◌∷◌, ◌++◌, map, codes, decimal, Option, Some, None}
+use Rattle.std.specs.Prelude.{if◌then◌else◌, ◌==◌, All, AllPairs, flat_map}
 use Rattle.psl_model.specs.declared.names.Signal.{Signal}
 use Rattle.psl_model.specs.declared.operators.UnOp.{UnOp}
 use Rattle.psl_model.specs.declared.operators.UnOp.TheVariants.{Not, Flip, AllOnes, AnyOne, Parity}
 use Rattle.psl_model.specs.declared.operators.BinOp.{BinOp}
-use Rattle.psl_model.specs.declared.operators.BinOp.TheVariants.{Add, Sub, Shl, Shr, Lt, Le, Gt, Ge, Eq, Ne, BitAnd, BitXor, BitOr, And, Or}
+use Rattle.psl_model.specs.declared.operators.BinOp.TheVariants.{Add, Sub, Shl, Shr, Lt, Le, Gt, Ge, Eq, Ne, BitAnd}
+use Rattle.psl_model.specs.declared.operators.BinOp.TheVariants.{BitXor, BitOr, And, Or}
 use Rattle.psl_model.specs.Expr.{Expr, whole, bit, part, plain, sized, unary, binary, choice}
 use Rattle.verilog_text.specs.Module.{Module, Register, Wire, register_stem, wire_stem, names_of, IsLawful}
 
@@ -61,12 +63,15 @@ infix_text op = codes " " ++ binary_symbol op ++ codes " "
 abbrev pub expression_text : List (List ℕ) → Expr → List ℕ
 expression_text names (whole signal) = name_at names signal
 expression_text names (bit signal place) = name_at names signal ++ codes "[" ++ decimal place ++ codes "]"
-expression_text names (part signal high low) = name_at names signal ++ codes "[" ++ decimal high ++ codes ":" ++ decimal low ++ codes "]"
+expression_text names (part signal high low) = name_at names signal ++ codes "[" ++ decimal high ++ codes ":"
+    ++ decimal low ++ codes "]"
 expression_text names (plain number) = decimal number
 expression_text names (sized width value) = sized_text width value
 expression_text names (unary op a) = codes "(" ++ unary_symbol op ++ expression_text names a ++ codes ")"
-expression_text names (binary op a b) = codes "(" ++ expression_text names a ++ infix_text op ++ expression_text names b ++ codes ")"
-expression_text names (choice test first second) = codes "(" ++ expression_text names test ++ codes " ? " ++ expression_text names first ++ codes " : " ++ expression_text names second ++ codes ")"
+expression_text names (binary op a b) = codes "(" ++ expression_text names a ++ infix_text op ++ expression_text names b
+    ++ codes ")"
+expression_text names (choice test first second) = codes "(" ++ expression_text names test ++ codes " ? "
+    ++ expression_text names first ++ codes " : " ++ expression_text names second ++ codes ")"
 
 -- the range of a width: none for one bit
 unfoldable pub range_text : (width : ℕ) → List ℕ
@@ -74,7 +79,9 @@ range_text width = if width == 1 then [] else codes "[" ++ decimal (width - 1) +
 
 -- the lines, in their order
 unfoldable pub header_line : Module → List ℕ
-header_line m = line (codes "module " ++ m.name ++ codes " (mbac_clk, mbac_rst, mbac_eot, " ++ flat_map (λ (p : Signal). p.name ++ codes ", ") m.ports ++ codes "mbac_fail);")
+header_line m =
+    line (codes "module " ++ m.name ++ codes " (mbac_clk, mbac_rst, mbac_eot, "
+    ++ flat_map (λ (p : Signal). p.name ++ codes ", ") m.ports ++ codes "mbac_fail);")
 
 unfoldable pub report_line : Option (List ℕ) → List ℕ
 report_line None = []
@@ -109,10 +116,12 @@ fail_line names e = line (codes "  assign mbac_fail = " ++ expression_text names
 
 -- what a register becomes at a clock edge: its initial value under reset
 unfoldable pub update_text : List (List ℕ) → Register → List ℕ
-update_text names r = codes "(mbac_rst ? " ++ sized_text r.width r.initial ++ codes " : " ++ expression_text names r.next ++ codes ")"
+update_text names r = codes "(mbac_rst ? " ++ sized_text r.width r.initial ++ codes " : "
+    ++ expression_text names r.next ++ codes ")"
 
 unfoldable pub always_line : List (List ℕ) → ℕ → Register → List ℕ
-always_line names k r = line (codes "  always @(posedge mbac_clk) " ++ register_name k ++ codes " <= " ++ update_text names r ++ codes ";")
+always_line names k r =
+    line (codes "  always @(posedge mbac_clk) " ++ register_name k ++ codes " <= " ++ update_text names r ++ codes ";")
 
 unfoldable pub end_line : List ℕ
 end_line = line (codes "endmodule")

@@ -15,18 +15,19 @@ use std::alloc::AllocError;
 
 /// An expression over the module's table of names. It goes as deep as the expression does.
 #[tactic(auto, using(crate::proofs::Growth::extends_twice))]
-pub fn put_expression(module: &Module, expr: &Expr, out: &mut Vec<u8>) -> Result<(), AllocError>
-    ensures text { OnOk result (out.new.items ≡ out.old.items ++ expression_text (names_of (module_of module.now)) (expr_of expr.now)) }
+pub fn put_expression(checker: &Module, expr: &Expr, out: &mut Vec<u8>) -> Result<(), AllocError>
+    ensures text { OnOk result
+        (out.new.items ≡ out.old.items ++ expression_text (names_of (module_of checker.now)) (expr_of expr.now)) }
     ensures kept { Extends out.old.items out.new.items }
 {
     match expr {
-        Expr::Whole(place) => put_name(module, *place, out),
+        Expr::Whole(place) => put_name(checker, *place, out),
         Expr::Bit(place, number) => {
-            put_name(module, *place, out)?;
+            put_name(checker, *place, out)?;
             put_bit(*number, out)
         }
         Expr::Part(place, high, low) => {
-            put_name(module, *place, out)?;
+            put_name(checker, *place, out)?;
             put_part(*high, *low, out)
         }
         Expr::Plain(number) => put_number(*number, out),
@@ -34,23 +35,23 @@ pub fn put_expression(module: &Module, expr: &Expr, out: &mut Vec<u8>) -> Result
         Expr::Unary(op, operand) => {
             put(b"(", out)?;
             put(prefix(*op), out)?;
-            put_expression(module, operand.get(), out)?;
+            put_expression(checker, operand.get(), out)?;
             put(b")", out)
         }
         Expr::Binary(op, left, right) => {
             put(b"(", out)?;
-            put_expression(module, left.get(), out)?;
+            put_expression(checker, left.get(), out)?;
             put_infix(*op, out)?;
-            put_expression(module, right.get(), out)?;
+            put_expression(checker, right.get(), out)?;
             put(b")", out)
         }
         Expr::Choice(test, first, second) => {
             put(b"(", out)?;
-            put_expression(module, test.get(), out)?;
+            put_expression(checker, test.get(), out)?;
             put(b" ? ", out)?;
-            put_expression(module, first.get(), out)?;
+            put_expression(checker, first.get(), out)?;
             put(b" : ", out)?;
-            put_expression(module, second.get(), out)?;
+            put_expression(checker, second.get(), out)?;
             put(b")", out)
         }
     }

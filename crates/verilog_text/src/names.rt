@@ -11,40 +11,43 @@ use crate::module::Module;
 use std::alloc::AllocError;
 
 /// The name at a place of the module's table, and nothing for a place that it doesn't have.
-#[tactic(auto, using(crate::proofs::Places::reset_at, crate::proofs::Places::end_at, crate::proofs::Places::declared_at))]
-pub fn put_name(module: &Module, place: usize, out: &mut Vec<u8>) -> Result<(), AllocError>
-    ensures text { OnOk result (out.new.items ≡ out.old.items ++ name_at (names_of (module_of module.now)) place) }
+#[tactic(auto, using(crate::proofs::Places::reset_at, crate::proofs::Places::end_at, crate::proofs::Places::other_at))]
+pub fn put_name(checker: &Module, place: usize, out: &mut Vec<u8>) -> Result<(), AllocError>
+    ensures text { OnOk result (out.new.items ≡ out.old.items ++ name_at (names_of (module_of checker.now)) place) }
     ensures kept { Extends out.old.items out.new.items }
 {
     match place {
         0 => put(b"mbac_rst", out),
         1 => put(b"mbac_eot", out),
-        _ => put_declared_name(module, place - 2, out),
+        _ => put_declared_name(checker, place - 2, out),
     }
 }
 
 #[tactic(auto, using(crate::proofs::Places::port_at, crate::proofs::Places::numbered_at))]
-fn put_declared_name(module: &Module, place: usize, out: &mut Vec<u8>) -> Result<(), AllocError>
+fn put_declared_name(checker: &Module, place: usize, out: &mut Vec<u8>) -> Result<(), AllocError>
     ensures text { OnOk result (out.new.items ≡ out.old.items
-        ++ name_at (port_names (module_of module.now) ++ register_names (module_of module.now) ++ wire_names (module_of module.now)) place) }
+        ++ name_at
+        (port_names (module_of checker.now) ++ register_names (module_of checker.now)
+        ++ wire_names (module_of checker.now))
+        place) }
     ensures kept { Extends out.old.items out.new.items }
 {
-    match module.ports.get(place) {
+    match checker.ports.get(place) {
         Some(port) => put(port.name.bytes(), out),
-        None => put_numbered_name(module, place - module.ports.len(), out),
+        None => put_numbered_name(checker, place - checker.ports.len(), out),
     }
 }
 
-#[tactic(auto, using(crate::proofs::Places::register_at, crate::proofs::Places::wire_at, crate::proofs::Places::none_at))]
-fn put_numbered_name(module: &Module, place: usize, out: &mut Vec<u8>) -> Result<(), AllocError>
+#[tactic(auto, using(crate::proofs::Places::reg_at, crate::proofs::Places::wire_at, crate::proofs::Places::none_at))]
+fn put_numbered_name(checker: &Module, place: usize, out: &mut Vec<u8>) -> Result<(), AllocError>
     ensures text { OnOk result (out.new.items ≡ out.old.items
-        ++ name_at (register_names (module_of module.now) ++ wire_names (module_of module.now)) place) }
+        ++ name_at (register_names (module_of checker.now) ++ wire_names (module_of checker.now)) place) }
     ensures kept { Extends out.old.items out.new.items }
 {
-    let registers = module.regs.len();
+    let registers = checker.regs.len();
     if place < registers {
         put_register_name(place, out)
-    } else if place - registers < module.wires.len() {
+    } else if place - registers < checker.wires.len() {
         put_wire_name(place - registers, out)
     } else {
         Ok(())

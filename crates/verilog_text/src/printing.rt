@@ -2,7 +2,10 @@
 
 ghost use Rattle.std.specs.Prelude.{◌≡◌, ◌++◌, OnOk, codes, map, flat_map};
 ghost use Rattle.verilog_text.specs.Module.{names_of};
-ghost use Rattle.verilog_text.specs.Text.{each_numbered, range_text, header_line, report_line, input_lines, port_line, output_line, register_line, wire_declaration, wire_line, fail_line, update_text, always_line, end_line, interface_lines, declaration_lines, behaviour_lines, spelling};
+ghost use Rattle.verilog_text.specs.Text.{each_numbered, range_text, header_line, report_line, input_lines, port_line};
+ghost use Rattle.verilog_text.specs.Text.{output_line, register_line, wire_declaration, wire_line, fail_line};
+ghost use Rattle.verilog_text.specs.Text.{update_text, always_line, end_line, interface_lines, declaration_lines};
+ghost use Rattle.verilog_text.specs.Text.{behaviour_lines, spelling};
 ghost use Rattle.verilog_text.specs.View.{module_of, register_of, wire_of};
 ghost use Rattle.verilog_text.specs.Growth.{Extends};
 
@@ -15,55 +18,55 @@ use std::alloc::AllocError;
 
 /// Appends the module's text. Every module is spelled; the text of a lawful one is a checker text.
 #[tactic(auto, using(crate::proofs::Growth::extends_twice))]
-pub fn print(module: &Module, out: &mut Vec<u8>) -> Result<(), AllocError>
-    ensures text { OnOk result (out.new.items ≡ out.old.items ++ spelling (module_of module.now)) }
+pub fn print(checker: &Module, out: &mut Vec<u8>) -> Result<(), AllocError>
+    ensures text { OnOk result (out.new.items ≡ out.old.items ++ spelling (module_of checker.now)) }
     ensures kept { Extends out.old.items out.new.items }
 {
-    put_interface(module, out)?;
-    put_declarations(module, out)?;
-    put_behaviour(module, out)
+    put_interface(checker, out)?;
+    put_declarations(checker, out)?;
+    put_behaviour(checker, out)
 }
 
 #[tactic(auto, using(crate::proofs::Growth::extends_twice), unfolding(crate::specs::Text::interface_lines))]
-fn put_interface(module: &Module, out: &mut Vec<u8>) -> Result<(), AllocError>
-    ensures text { OnOk result (out.new.items ≡ out.old.items ++ interface_lines (module_of module.now)) }
+fn put_interface(checker: &Module, out: &mut Vec<u8>) -> Result<(), AllocError>
+    ensures text { OnOk result (out.new.items ≡ out.old.items ++ interface_lines (module_of checker.now)) }
     ensures kept { Extends out.old.items out.new.items }
 {
-    put_header(module, out)?;
-    put_report(&module.report, out)?;
+    put_header(checker, out)?;
+    put_report(&checker.report, out)?;
     put_inputs(out)?;
-    put_ports(module.ports.as_slice(), out)?;
+    put_ports(checker.ports.as_slice(), out)?;
     put_output(out)
 }
 
 #[tactic(auto, using(crate::proofs::Growth::extends_twice), unfolding(crate::specs::Text::declaration_lines))]
-fn put_declarations(module: &Module, out: &mut Vec<u8>) -> Result<(), AllocError>
-    ensures text { OnOk result (out.new.items ≡ out.old.items ++ declaration_lines (module_of module.now)) }
+fn put_declarations(checker: &Module, out: &mut Vec<u8>) -> Result<(), AllocError>
+    ensures text { OnOk result (out.new.items ≡ out.old.items ++ declaration_lines (module_of checker.now)) }
     ensures kept { Extends out.old.items out.new.items }
 {
-    put_registers(module.regs.as_slice(), out)?;
-    put_wires(module, module.wires.as_slice(), out)
+    put_registers(checker.regs.as_slice(), out)?;
+    put_wires(checker, checker.wires.as_slice(), out)
 }
 
 #[tactic(auto, using(crate::proofs::Growth::extends_twice), unfolding(crate::specs::Text::behaviour_lines))]
-fn put_behaviour(module: &Module, out: &mut Vec<u8>) -> Result<(), AllocError>
-    ensures text { OnOk result (out.new.items ≡ out.old.items ++ behaviour_lines (module_of module.now)) }
+fn put_behaviour(checker: &Module, out: &mut Vec<u8>) -> Result<(), AllocError>
+    ensures text { OnOk result (out.new.items ≡ out.old.items ++ behaviour_lines (module_of checker.now)) }
     ensures kept { Extends out.old.items out.new.items }
 {
-    put_fail(module, out)?;
-    put_always_lines(module, module.regs.as_slice(), out)?;
+    put_fail(checker, out)?;
+    put_always_lines(checker, checker.regs.as_slice(), out)?;
     put_end(out)
 }
 
 #[tactic(auto, using(crate::proofs::Growth::extends_twice), unfolding(crate::specs::Text::header_line))]
-fn put_header(module: &Module, out: &mut Vec<u8>) -> Result<(), AllocError>
-    ensures text { OnOk result (out.new.items ≡ out.old.items ++ header_line (module_of module.now)) }
+fn put_header(checker: &Module, out: &mut Vec<u8>) -> Result<(), AllocError>
+    ensures text { OnOk result (out.new.items ≡ out.old.items ++ header_line (module_of checker.now)) }
     ensures kept { Extends out.old.items out.new.items }
 {
     put(b"module ", out)?;
-    put(module.name.bytes(), out)?;
+    put(checker.name.bytes(), out)?;
     put(b" (mbac_clk, mbac_rst, mbac_eot, ", out)?;
-    put_port_names(module.ports.as_slice(), out)?;
+    put_port_names(checker.ports.as_slice(), out)?;
     put(b"mbac_fail);\n", out)
 }
 
@@ -156,7 +159,8 @@ fn put_end(out: &mut Vec<u8>) -> Result<(), AllocError>
 
 #[tactic(auto, using(crate::proofs::Growth::extends_twice, crate::proofs::Growth::extends_none))]
 fn put_registers(registers: &[RegDecl], out: &mut Vec<u8>) -> Result<(), AllocError>
-    ensures text { OnOk result (out.new.items ≡ out.old.items ++ each_numbered register_line 0 (map register_of registers.now)) }
+    ensures text { OnOk result
+        (out.new.items ≡ out.old.items ++ each_numbered register_line 0 (map register_of registers.now)) }
     ensures kept { Extends out.old.items out.new.items }
 {
     for (number, register) in registers.iter().enumerate() {
@@ -177,30 +181,31 @@ fn put_register(number: usize, register: &RegDecl, out: &mut Vec<u8>) -> Result<
 }
 
 #[tactic(auto, using(crate::proofs::Growth::extends_twice, crate::proofs::Growth::extends_none))]
-fn put_wires(module: &Module, wires: &[WireDecl], out: &mut Vec<u8>) -> Result<(), AllocError>
+fn put_wires(checker: &Module, wires: &[WireDecl], out: &mut Vec<u8>) -> Result<(), AllocError>
     ensures text { OnOk result (out.new.items ≡ out.old.items
-        ++ each_numbered (wire_line (names_of (module_of module.now))) 0 (map wire_of wires.now)) }
+        ++ each_numbered (wire_line (names_of (module_of checker.now))) 0 (map wire_of wires.now)) }
     ensures kept { Extends out.old.items out.new.items }
 {
     for (number, wire) in wires.iter().enumerate() {
-        put_wire(module, number, wire, out)?;
+        put_wire(checker, number, wire, out)?;
     }
     Ok(())
 }
 
 #[tactic(auto, using(crate::proofs::Growth::extends_twice), unfolding(crate::specs::Text::wire_line))]
 fn put_wire(
-    module: &Module,
+    checker: &Module,
     number: usize,
     wire: &WireDecl,
     out: &mut Vec<u8>,
 ) -> Result<(), AllocError>
-    ensures text { OnOk result (out.new.items ≡ out.old.items ++ wire_line (names_of (module_of module.now)) number (wire_of wire.now)) }
+    ensures text { OnOk result
+        (out.new.items ≡ out.old.items ++ wire_line (names_of (module_of checker.now)) number (wire_of wire.now)) }
     ensures kept { Extends out.old.items out.new.items }
 {
     put_wire_declaration(number, wire, out)?;
     put(b" = ", out)?;
-    put_expression(module, &wire.value, out)?;
+    put_expression(checker, &wire.value, out)?;
     put(b";\n", out)
 }
 
@@ -215,58 +220,59 @@ fn put_wire_declaration(number: usize, wire: &WireDecl, out: &mut Vec<u8>) -> Re
 }
 
 #[tactic(auto, using(crate::proofs::Growth::extends_twice), unfolding(crate::specs::Text::fail_line))]
-fn put_fail(module: &Module, out: &mut Vec<u8>) -> Result<(), AllocError>
+fn put_fail(checker: &Module, out: &mut Vec<u8>) -> Result<(), AllocError>
     ensures text { OnOk result (out.new.items ≡ out.old.items
-        ++ fail_line (names_of (module_of module.now)) (module_of module.now).fail) }
+        ++ fail_line (names_of (module_of checker.now)) (module_of checker.now).fail) }
     ensures kept { Extends out.old.items out.new.items }
 {
     put(b"  assign mbac_fail = ", out)?;
-    put_expression(module, &module.fail, out)?;
+    put_expression(checker, &checker.fail, out)?;
     put(b";\n", out)
 }
 
 #[tactic(auto, using(crate::proofs::Growth::extends_twice, crate::proofs::Growth::extends_none))]
 fn put_always_lines(
-    module: &Module,
+    checker: &Module,
     registers: &[RegDecl],
     out: &mut Vec<u8>,
 ) -> Result<(), AllocError>
     ensures text { OnOk result (out.new.items ≡ out.old.items
-        ++ each_numbered (always_line (names_of (module_of module.now))) 0 (map register_of registers.now)) }
+        ++ each_numbered (always_line (names_of (module_of checker.now))) 0 (map register_of registers.now)) }
     ensures kept { Extends out.old.items out.new.items }
 {
     for (number, register) in registers.iter().enumerate() {
-        put_always(module, number, register, out)?;
+        put_always(checker, number, register, out)?;
     }
     Ok(())
 }
 
 #[tactic(auto, using(crate::proofs::Growth::extends_twice), unfolding(crate::specs::Text::always_line))]
 fn put_always(
-    module: &Module,
+    checker: &Module,
     number: usize,
     register: &RegDecl,
     out: &mut Vec<u8>,
 ) -> Result<(), AllocError>
     ensures text { OnOk result (out.new.items ≡ out.old.items
-        ++ always_line (names_of (module_of module.now)) number (register_of register.now)) }
+        ++ always_line (names_of (module_of checker.now)) number (register_of register.now)) }
     ensures kept { Extends out.old.items out.new.items }
 {
     put(b"  always @(posedge mbac_clk) ", out)?;
     put_register_name(number, out)?;
     put(b" <= ", out)?;
-    put_update(module, register, out)?;
+    put_update(checker, register, out)?;
     put(b";\n", out)
 }
 
 #[tactic(auto, using(crate::proofs::Growth::extends_twice), unfolding(crate::specs::Text::update_text))]
-fn put_update(module: &Module, register: &RegDecl, out: &mut Vec<u8>) -> Result<(), AllocError>
-    ensures text { OnOk result (out.new.items ≡ out.old.items ++ update_text (names_of (module_of module.now)) (register_of register.now)) }
+fn put_update(checker: &Module, register: &RegDecl, out: &mut Vec<u8>) -> Result<(), AllocError>
+    ensures text { OnOk result
+        (out.new.items ≡ out.old.items ++ update_text (names_of (module_of checker.now)) (register_of register.now)) }
     ensures kept { Extends out.old.items out.new.items }
 {
     put(b"(mbac_rst ? ", out)?;
     put_sized(register.width, register.init, out)?;
     put(b" : ", out)?;
-    put_expression(module, &register.next, out)?;
+    put_expression(checker, &register.next, out)?;
     put(b")", out)
 }

@@ -10,7 +10,13 @@ letter x = valuation (x ∷ [])
 
 -- a letter without a, and one with
 half : Tight widths (next_with a) (letter 0 ∷ letter 1 ∷ [])
-half = (letter 0 ∷ [], letter 1 ∷ [], refl, (1, (letter 0 ∷ [], [], refl, (letter 0, refl, λ e. absurd (omega arith)), refl)), (letter 1, refl, λ e. absurd (omega arith)))
+half = (
+  letter 0 ∷ [],
+  letter 1 ∷ [],
+  refl,
+  (1, (letter 0 ∷ [], [], refl, (letter 0, refl, λ e. absurd (omega arith)), refl)),
+  (letter 1, refl, λ e. absurd (omega arith)),
+)
 
 pub returns-clause-of_the_second : goal.returns-clause-of_the_second
 returns-clause-of_the_second c = (letter 0 ∷ letter 1 ∷ [], letter 0 ∷ letter 1 ∷ [], refl, half, half)

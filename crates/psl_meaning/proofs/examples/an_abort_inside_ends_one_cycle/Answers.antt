@@ -34,4 +34,5 @@ each (suc zero) = inr (0, (λ e. absurd (omega arith)), tt)
 each (suc (suc k)) = inl (rw (letter_at-from (suc (suc k)) two) tt)
 
 pub returns-clause-not_by_two : goal.returns-clause-not_by_two
-returns-clause-not_by_two c refuted = refuted (places_everywhere widths body two (λ k reached tops_after no. no (each k)))
+returns-clause-not_by_two c refuted =
+    refuted (places_everywhere widths body two (λ k reached tops_after no. no (each k)))

@@ -4,4 +4,5 @@ use Rattle.psl_meaning.proofs.Always.{holds_by_test}
 use Rattle.psl_meaning.proofs.examples.an_abort_outside_ends_the_obligation.Goals as goal
 
 pub returns : goal.returns
-returns c refuted = refuted (inr (1, (λ e. absurd (omega arith)), holds_by_test widths a (trace_of_both (1 ∷ []) (0 ∷ [])) refl))
+returns c refuted =
+    refuted (inr (1, (λ e. absurd (omega arith)), holds_by_test widths a (trace_of_both (1 ∷ []) (0 ∷ [])) refl))

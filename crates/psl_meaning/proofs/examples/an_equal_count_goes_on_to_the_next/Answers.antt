@@ -17,4 +17,10 @@ one : Tight widths (next_with a) (letter 0 0 ∷ letter 1 0 ∷ [])
 one = (letter 0 0 ∷ [], letter 1 0 ∷ [], refl, without, (letter 1 0, refl, λ e. absurd (omega arith)))
 
 pub returns-clause-of_one : goal.returns-clause-of_one
-returns-clause-of_one c = (letter 0 0 ∷ letter 1 0 ∷ letter 0 0 ∷ [], letter 0 1 ∷ [], refl, (letter 0 0 ∷ letter 1 0 ∷ [], letter 0 0 ∷ [], refl, one, without), (letter 0 1, refl, λ e. absurd (omega arith)))
+returns-clause-of_one c = (
+  letter 0 0 ∷ letter 1 0 ∷ letter 0 0 ∷ [],
+  letter 0 1 ∷ [],
+  refl,
+  (letter 0 0 ∷ letter 1 0 ∷ [], letter 0 0 ∷ [], refl, one, without),
+  (letter 0 1, refl, λ e. absurd (omega arith)),
+)

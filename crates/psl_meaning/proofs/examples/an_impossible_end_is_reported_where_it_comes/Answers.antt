@@ -1,4 +1,5 @@
-use Rattle.std.proofs.Common.{◌≡◌, ◌-◌, ℕ, zero, suc, List, [], ◌∷◌, refl, sym, ap, ◌∙◌, subst, replicate, length, arith}
+use Rattle.std.proofs.Common.{◌≡◌, ◌-◌, ℕ, zero, suc, List, [], ◌∷◌, refl, sym, ap, ◌∙◌, subst, replicate, length}
+use Rattle.std.proofs.Common.{arith}
 use Rattle.psl_meaning.specs.Word.{Letter, with_tops, first, valuation, top, Reaches}
 use Rattle.psl_meaning.specs.Sequence.{CoreSere, bool, concat, Holds}
 use Rattle.psl_meaning.specs.Formula.{SomePrefix}
@@ -29,13 +30,20 @@ first_two (suc n) =
     ap (λ (k : ℕ). letter 1 ∷ top ∷ replicate k top) none
 
 with_top : (n : ℕ) → SomePrefix widths impossible (with_tops (letter 1 ∷ replicate n top))
-with_top n = (1, reaches n, (letter 1 ∷ [], top ∷ [], first_two n, (letter 1, refl, λ e. absurd (omega arith)), (top, refl, tt)))
+with_top n = (
+  1,
+  reaches n,
+  (letter 1 ∷ [], top ∷ [], first_two n, (letter 1, refl, λ e. absurd (omega arith)), (top, refl, tt)),
+)
 
 pub returns-clause-not_before : goal.returns-clause-not_before
-returns-clause-not_before c refuted = refuted (λ n reached. subst (λ (xs : List Letter). SomePrefix widths impossible (with_tops xs)) (sym (only_tops n)) (with_top n))
+returns-clause-not_before c refuted =
+    refuted (λ n reached. subst (λ (xs : List Letter). SomePrefix widths impossible (with_tops xs)) (sym (only_tops n))
+    (with_top n))
 
 -- no prefix is a letter with a and then one with false
-second : (n : ℕ) (x y : Letter) → first (suc n) (with_tops (letter 1 ∷ letter 0 ∷ [])) ≡ x ∷ y ∷ [] → ¬ Holds widths always_false y
+second : (n : ℕ) (x y : Letter) → first (suc n) (with_tops (letter 1 ∷ letter 0 ∷ [])) ≡ x ∷ y ∷ [] →
+    ¬ Holds widths always_false y
 second zero x y e h = absurd (cc)
 second (suc n) x y e h =
     let same : letter 0 ≡ y = cc in

@@ -6,6 +6,8 @@ use Rattle.psl_meaning.proofs.laws.always_is_its_body_at_each_place.Goals as goa
 
 pub returns : goal.returns
 returns c widths f trace = (
-  (λ stands k within refuted. stands (λ all. run_places widths (core_formula_of f) trace ended all k (omega arith) (reached_ended trace k within) refuted)),
+  (λ stands k within refuted. stands
+      (λ all. run_places widths (core_formula_of f) trace ended all k (omega arith) (reached_ended trace k within)
+      refuted)),
   (λ each refuted. refuted (places_run_ended widths (core_formula_of f) trace each)),
 )

@@ -4,5 +4,6 @@ use Rattle.verilog_text.proofs.names.put_declared_name.Goals as goal
 
 pub returns-in-None-clause-text : goal.returns-in-None-clause-text
 returns-in-None-clause-text c =
-    let past : length c.args.module.now.ports ≤ c.args.place = none_past c.args.module.now.ports c.args.place c.in-None.ensures.value in
-    rw (numbered_at c.args.module.now c.args.place past) (rw c.len.ensures at c.put_numbered_name.ensures.text)
+    let past : length c.args.checker.now.ports ≤ c.args.place =
+    none_past c.args.checker.now.ports c.args.place c.in-None.ensures.value in
+    rw (numbered_at c.args.checker.now c.args.place past) (rw c.len.ensures at c.put_numbered_name.ensures.text)

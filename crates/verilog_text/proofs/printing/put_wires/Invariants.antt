@@ -7,5 +7,6 @@ use Rattle.verilog_text.proofs.printing.put_wires.Given as goal
 
 abbrev pub invariant-loop-number : goal.invariant-loop-number
 invariant-loop-number l =
-    (l.out.items ≡ l.initial.out.items ++ each_numbered (wire_line (names_of (module_of l.module))) 0 (map wire_of (take l.number l.wires)))
+    (l.out.items ≡ l.initial.out.items ++ each_numbered (wire_line (names_of (module_of l.checker))) 0
+    (map wire_of (take l.number l.wires)))
     × Extends l.initial.out.items l.out.items
