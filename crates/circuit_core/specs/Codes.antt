@@ -4,7 +4,7 @@ use Rattle.std.specs.Prelude.{ℕ, ◌≡◌, ◌⊎◌, Bool, List, Option, Som
 use Rattle.std.proofs.Common.{inl, inr}
 use Rattle.std.specs.Coded.{Coded, code_by, coded_ℕ, coded_bool, coded_list, coded_option, coded×, coded⊎}
 use Rattle.psl_model.specs.Expr.{Expr}
-use Rattle.psl_model.specs.Codes.{coded_expr}
+use Rattle.psl_model.specs.inner.Codes.{coded_expr}
 use Rattle.circuit_core.specs.Netlist.{Op, bit, eot, guard, not, and, or, register, Node, Register, Netlist}
 
 -- a constant or none for the end of execution, an expression, and the nets and registers of the other variants

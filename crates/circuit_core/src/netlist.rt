@@ -12,7 +12,7 @@ ghost use Rattle.circuit_core.specs.Growth.{Extends, IsSet, HasNoNext, opened};
 ghost use Rattle.circuit_core.specs.Run.{On, number, truth, Throughout, InEachRun, InEachCycle, IsRunOf};
 
 use crate::nodes::{Net, NetReg, Node, Op, Reg};
-use psl_model::{Expr, Subexpr};
+use psl_model::Expr;
 use std::alloc::{AllocError, Global};
 use std::marker::Model;
 
@@ -21,38 +21,6 @@ pub fn a_netlist_is_well_made(netlist: &Netlist)
     ensures { IsWellMade netlist.now }
 {
     let _output = netlist.output;
-}
-
-// An equal expression.
-fn copied(alloc: Global, expr: &Expr) -> Result<Expr, AllocError>
-    ensures { IfOk result (λ copy. expr_of copy ≡ expr_of expr.now) }
-{
-    match expr {
-        Expr::Whole(signal) => Ok(Expr::Whole(*signal)),
-        Expr::Bit(signal, place) => Ok(Expr::Bit(*signal, *place)),
-        Expr::Part(signal, high, low) => Ok(Expr::Part(*signal, *high, *low)),
-        Expr::Plain(number) => Ok(Expr::Plain(*number)),
-        Expr::Sized(width, value) => Ok(Expr::Sized(*width, *value)),
-        Expr::Unary(op, operand) => {
-            let operand = copied(alloc, operand.get())?;
-            Ok(Expr::Unary(*op, Subexpr::new(alloc, operand)?))
-        }
-        Expr::Binary(op, left, right) => {
-            let left = copied(alloc, left.get())?;
-            let right = copied(alloc, right.get())?;
-            Ok(Expr::Binary(*op, Subexpr::new(alloc, left)?, Subexpr::new(alloc, right)?))
-        }
-        Expr::Choice(test, first, second) => {
-            let test = copied(alloc, test.get())?;
-            let first = copied(alloc, first.get())?;
-            let second = copied(alloc, second.get())?;
-            Ok(Expr::Choice(
-                Subexpr::new(alloc, test)?,
-                Subexpr::new(alloc, first)?,
-                Subexpr::new(alloc, second)?,
-            ))
-        }
-    }
 }
 
 /// A netlist over the signals of a trace. It only grows: a net keeps its value whatever is added. After want of memory
@@ -193,12 +161,13 @@ impl Netlist {
         ensures net { IfOk result (λ k. IsNet self.new k.0) }
         ensures registers { self.new.registers ≡ self.old.registers }
         ensures one_more { length self.new.nodes ≤ suc (length self.old.nodes) }
-        ensures node { IfOk result (λ k. slice_get self.new.nodes k.0 ≡ Some (one_bit (plain.guard (expr_of expr.now)))) }
+        ensures node { IfOk result (λ k.
+            slice_get self.new.nodes k.0 ≡ Some (one_bit (plain.guard (expr_of expr.now)))) }
         ensures stream { IfOk result (λ k. InEachRun self.new (λ inputs run. (n : ℕ) (values : List ℕ) →
             slice_get inputs.trace n ≡ Some values → On (run k.0) n ↔
             (own_value self.old.widths values (expr_of expr.now) ≢ 0))) }
     {
-        let expr = copied(self.alloc, expr)?;
+        let expr = expr.copy(self.alloc)?;
         self.put(Op::Guard(expr))
     }
 

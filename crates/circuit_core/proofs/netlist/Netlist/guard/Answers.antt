@@ -17,4 +17,4 @@ returns-clause-stream c =
     slice_get inputs.trace n ≡ Some values →
     On (run k.0) n ↔ (own_value c.args.self.now.widths values (expr_of c.args.expr.now) ≢ 0)))
     (λ k at. guard_stream c.args.self.now c.put.new.self k.0 (expr_of c.args.expr.now) c.put.ensures.kept
-    (at ∙ ap (λ (e : Expr). Some (one_bit (guard e))) c.in_ok-expr.ensures)) c.put.ensures.node
+    (at ∙ ap (λ (e : Expr). Some (one_bit (guard e))) c.in_ok-expr.ensures.equal)) c.put.ensures.node
