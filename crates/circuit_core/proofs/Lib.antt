@@ -1,0 +1,9 @@
+pub mod Lists
+pub mod Growth
+pub mod Streams
+pub mod Calls
+pub mod Setting
+pub mod Making
+pub mod Exists
+pub mod OneRun
+pub mod Joins
