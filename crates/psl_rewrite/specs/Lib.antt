@@ -1,0 +1,5 @@
+pub mod CoreSere
+pub mod Base
+pub mod View
+pub mod Meaning
+pub mod inner
