@@ -58,7 +58,8 @@ base_code (formula.abort a0 a1) = gcons (gnum 14) (gcons (base_code a0) (expr_co
 
 pub base_inj : (x y : formula.Base) → base_code x ≡ base_code y → x ≡ y
 base_inj (formula.bool a0) (formula.bool b0) p = λ i. formula.bool (expr_inj a0 b0 (from 1 p) i)
-base_inj (formula.and a0 a1) (formula.and b0 b1) p = λ i. formula.and (base_inj a0 b0 (at 1 p) i) (base_inj a1 b1 (from 2 p) i)
+base_inj (formula.and a0 a1) (formula.and b0 b1) p =
+    λ i. formula.and (base_inj a0 b0 (at 1 p) i) (base_inj a1 b1 (from 2 p) i)
 base_inj (formula.or_bool a0 a1) (formula.or_bool b0 b1) p =
     λ i. formula.or_bool (expr_inj a0 b0 (at 1 p) i) (base_inj a1 b1 (from 2 p) i)
 base_inj (formula.implies a0 a1) (formula.implies b0 b1) p =
@@ -80,7 +81,8 @@ base_inj (formula.event a0 a1 a2 a3 a4) (formula.event b0 b1 b2 b3 b4) p =
 base_inj (formula.event_some a0 a1 a2 a3 a4) (formula.event_some b0 b1 b2 b3 b4) p =
     λ i. formula.event_some (truth_inj a0 b0 (at 1 p) i) (expr_inj a1 b1 (at 2 p) i) (number (at 3 p) i)
     (number (at 4 p) i) (expr_inj a4 b4 (from 5 p) i)
-base_inj (formula.seq a0 a1) (formula.seq b0 b1) p = λ i. formula.seq (sere_inj a0 b0 (at 1 p) i) (truth_inj a1 b1 (from 2 p) i)
+base_inj (formula.seq a0 a1) (formula.seq b0 b1) p =
+    λ i. formula.seq (sere_inj a0 b0 (at 1 p) i) (truth_inj a1 b1 (from 2 p) i)
 base_inj (formula.eventually a0) (formula.eventually b0) p = λ i. formula.eventually (sere_inj a0 b0 (from 1 p) i)
 base_inj (formula.suffix a0 a1) (formula.suffix b0 b1) p =
     λ i. formula.suffix (sere_inj a0 b0 (at 1 p) i) (base_inj a1 b1 (from 2 p) i)
