@@ -28,8 +28,12 @@ module _ {S T : Type 0} (m : Machine S) (n : Machine T) where
       ≤ length (m.edges p) + length (m.edges p) * length (n.edges n.start)
   fuse_left p =
       let lasts : length (last_edges m p) ≤ length (m.edges p) =
-          omega (arith, length-filter (λ x. m.accepts x.1) (m.edges p), count_by-le-length (λ x. m.accepts x.1)
-              (m.edges p)) in
+      omega (
+        arith,
+        length-filter (λ x. m.accepts x.1) (m.edges p),
+        count_by-le-length (λ x. m.accepts x.1)
+            (m.edges p),
+      ) in
       let firsts : length (n.edges n.start) ≤ length (n.edges n.start) = omega arith in
       omega (
         arith,

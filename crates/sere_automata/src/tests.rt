@@ -66,7 +66,7 @@ fn composed(a: Leaf, b: Leaf, c: Leaf, d: Leaf) -> Both<Fuse<Leaf, Leaf>, Concat
     ensures { (w : List Letter) →
         Accepts (⟦<Both<Fuse<Leaf, Leaf>, Concat<Leaf, Leaf>> as Auto>⟧.machine result) w
         ↔ (IsFusion (Accepts (⟦<Leaf as Auto>⟧.machine a)) (Accepts (⟦<Leaf as Auto>⟧.machine b)) w
-            × IsConcatenation (Accepts (⟦<Leaf as Auto>⟧.machine c)) (Accepts (⟦<Leaf as Auto>⟧.machine d)) w) }
+        × IsConcatenation (Accepts (⟦<Leaf as Auto>⟧.machine c)) (Accepts (⟦<Leaf as Auto>⟧.machine d)) w) }
 {
     Both::new(Fuse::new(a, b), Concat::new(c, d))
 }
