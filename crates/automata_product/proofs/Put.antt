@@ -1,5 +1,5 @@
 -- The edge at a place of a list that is made of others: where it leads, and what its label is.
-use Rattle.std.proofs.Common.{◌≡◌, ◌↔◌, ℕ, zero, suc, [], ◌∷◌, arith, ◌+◌, ◌-◌, ◌*◌, ◌/◌, ◌%◌, ◌<◌, ◌≤◌, Some, List}
+use Rattle.std.proofs.Common.{◌≡◌, ◌↔◌, ℕ, zero, suc, [], ◌∷◌, arith, ◌+◌, ◌-◌, ◌*◌, ◌/◌, ◌%◌, ◌<◌, ◌≤◌, List}
 use Rattle.std.proofs.Common.{◌++◌}
 use Rattle.std.proofs.Common.{map, length, slice_get, refl, sym, ap, ◌∙◌, subst, length-append}
 use Rattle.std.specs.Option.{option_map}
