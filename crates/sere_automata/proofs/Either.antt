@@ -1,6 +1,5 @@
 -- The edges of each machine's states as the edges of a state of one part and after them those of another.
-use Rattle.std.proofs.Common.{◌≡◌, Bool, true, false, List, ◌++◌, map, sym, ap, ◌∙◌}
-use Rattle.auto_core.specs.declared.labels.Literal.{Literal}
+use Rattle.std.proofs.Common.{◌≡◌, Bool, true, false, map, sym, ap, ◌∙◌}
 use Rattle.auto_core.specs.Edges.{renamed}
 use Rattle.auto_core.specs.Machine.{Machine}
 use Rattle.automata_product.specs.declared.side.Side.{Side}
