@@ -1,7 +1,7 @@
 -- A copy of a machine in another accepts what the machine does.
-use Rattle.std.proofs.Common.{◌≡◌, ◌↔◌, IsTrue, List, [], ◌∷◌, map, refl, sym, subst, Contains}
+use Rattle.std.proofs.Common.{◌↔◌, IsTrue, List, [], ◌∷◌, refl, sym, subst, Contains}
 use Rattle.auto_core.specs.declared.labels.Literal.{Literal}
-use Rattle.auto_core.specs.Edges.{renamed, HasCopy}
+use Rattle.auto_core.specs.Edges.{HasCopy}
 use Rattle.auto_core.specs.Machine.{Machine, Letter, AcceptsFrom}
 use Rattle.auto_core.proofs.EdgeMembers.{has_renamed}
 
@@ -10,9 +10,13 @@ module _ {S U : Type 0} (m : Machine S) (k : Machine U) (f : S → U) (copy : Ha
   to_copy [] s h = subst IsTrue (sym (copy.accepts s)) h
   to_copy (a ∷ w) s (label, next, there, passes, rest) =
       let edge = (has_renamed f (m.edges s) label (f next)).1 (next, there, refl) in
-      let same = sym (copy.edges s) in
-      (label, f next, subst (λ (es : List (List Literal × U)). Contains es (label, f next)) same edge, passes,
-          to_copy w next rest)
+      let same = sym (copy.edges s) in (
+        label,
+        f next,
+        subst (λ (es : List (List Literal × U)). Contains es (label, f next)) same edge,
+        passes,
+        to_copy w next rest,
+      )
 
   from_copy : (w : List Letter) (s : S) → AcceptsFrom k (f s) w → AcceptsFrom m s w
   from_copy [] s h = subst IsTrue (copy.accepts s) h

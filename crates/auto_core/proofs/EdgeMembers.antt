@@ -1,5 +1,5 @@
 -- Which edges a list has that is made of other lists of edges.
-use Rattle.std.proofs.Common.{◌≡◌, Bool, List, [], ◌∷◌, ◌++◌, map, filter, inl, inr, refl, sym, ap, subst, Contains}
+use Rattle.std.proofs.Common.{Bool, List, [], ◌∷◌, map, filter, inl, inr, refl, sym, ap, subst, Contains}
 use Rattle.std.specs.Prelude.{flat_map}
 use Rattle.auto_core.specs.declared.labels.Literal.{Literal}
 use Rattle.auto_core.specs.Edges.{renamed, joined_edge, products, HasRenamed, HasJoined, HasTested}
@@ -12,7 +12,7 @@ has_renamed {S} {U} f edges label u = (
   (λ h.
       let r = map-Among (renamed f) edges (label, u) (Among-from_Contains (map (renamed f) edges) (label, u) h) in
       let there : Among edges (label, r.0.1) =
-          subst (λ (l : List Literal). Among edges (l, r.0.1)) (ap (λ (e : List Literal × U). e.0) r.2) r.1 in
+      subst (λ (l : List Literal). Among edges (l, r.0.1)) (ap (λ (e : List Literal × U). e.0) r.2) r.1 in
       (r.0.1, Contains-from_Among edges (label, r.0.1) there, ap (λ (e : List Literal × U). e.1) r.2)),
   (λ h.
       let there = Among-map (renamed f) edges (label, h.0) (Among-from_Contains edges (label, h.0) h.1) in

@@ -46,7 +46,7 @@ filter-all : (n : ℕ) (edges : List Edge) → All (λ e. e.from ≡ n) edges �
 filter-all n [] all = refl
 filter-all n (e ∷ edges) all =
     ap (λ (b : Bool). cond b (e ∷ filter (λ e. eqb e.from n) edges) (filter (λ e. eqb e.from n) edges))
-        ((Decides-eqb e.from n).1 (All-head (λ e. e.from ≡ n) e edges all))
+    ((Decides-eqb e.from n).1 (All-head (λ e. e.from ≡ n) e edges all))
     ∙ ap (λ (s : List Edge). e ∷ s) (filter-all n edges (All-tail (λ e. e.from ≡ n) e edges all))
 
 drop-length : {X : Type 0} (xs ys : List X) → drop (length xs) (xs ++ ys) ≡ ys
@@ -68,12 +68,12 @@ kept_row edges more n from row lt all has =
       within = omega (arith, has.within);
       there =
           ap (take (row.end - row.first))
-              (drop-append-le row.first edges more (omega (arith, has.in_order, has.within)))
+          (drop-append-le row.first edges more (omega (arith, has.in_order, has.within)))
           ∙ take-append-le (row.end - row.first) (drop row.first edges) more (omega (arith, has.in_order, has.within))
           ∙ has.there
           ∙ sym (append-nil (filter (λ e. eqb e.from n) edges))
           ∙ ap (λ (s : List Edge). filter (λ e. eqb e.from n) edges ++ s)
-              (sym (filter-none n from more (λ e. omega arith) all))
+          (sym (filter-none n from more (λ e. omega arith) all))
           ∙ sym (filter-append (λ e. eqb e.from n) edges more);
     }
 
@@ -110,16 +110,16 @@ module _ {S : Type 0} (eq : S → S → Bool) (own : S → Type 0) (m : Machine 
       IsExplored eq own m limit [] names edges → rows ≡ [] → IsPartWay eq own m limit 0 names edges rows
   all_begun names edges rows seen none = subst (λ (r : List Row). IsPartWay eq own m limit 0 names edges r)
       (sym none) (record {
-    explored = subst (λ (s : List S). IsExplored eq own m limit (steps_from m 0 s) names edges)
-        (sym (nothing names)) seen;
-    filed = record {
-      accepting = sym (ap (map m.accepts) (nothing names));
-      rows_there = λ n row h. absurd (let e = h in cc);
-      below = subst (All (λ e. e.from < 0)) (sym seen.joined) (All-nil (λ e. e.from < 0));
-    };
-    counted = refl;
-    within = omega arith;
-  })
+        explored = subst (λ (s : List S). IsExplored eq own m limit (steps_from m 0 s) names edges)
+            (sym (nothing names)) seen;
+        filed = record {
+          accepting = sym (ap (map m.accepts) (nothing names));
+          rows_there = λ n row h. absurd (let e = h in cc);
+          below = subst (All (λ e. e.from < 0)) (sym seen.joined) (All-nil (λ e. e.from < 0));
+        };
+        counted = refl;
+        within = omega arith;
+      })
     where
       nothing : {X : Type 0} (xs : List X) → take 0 xs ≡ []
       nothing [] = refl
@@ -138,41 +138,41 @@ module _ {S : Type 0} (eq : S → S → Bool) (own : S → Type 0) (m : Machine 
       let long : length (names ++ grows.0) ≡ length names + length grows.0 = length-append names grows.0 in
       let count : length (rows ++ row ∷ []) ≡ length rows + 1 = length-append rows (row ∷ []) in
       let front : take from names' ≡ take from names = ap (take from) grows.1 ∙ take-append-le from names grows.0
-          (omega arith) in
+      (omega arith) in
       let here : slice_get names' from ≡ Some state = ap (λ (s : List S). slice_get s from) grows.1
-          ∙ still names grows.0 from state named in
+      ∙ still names grows.0 from state named in
       let next : take (from + 1) names' ≡ take from names ++ state ∷ [] = take-next names' from state here
-          ∙ ap (λ (s : List S). s ++ state ∷ []) front in
+      ∙ ap (λ (s : List S). s ++ state ∷ []) front in
       record {
         explored = explored;
         filed = record {
           accepting =
               map-append (λ (r : Row). r.accepts) rows (row ∷ [])
               ∙ ap (λ (s : List Bool). s ++ row.accepts ∷ [])
-                  (before.filed.accepting ∙ ap (λ (k : ℕ). map m.accepts (take k names)) before.counted)
+              (before.filed.accepting ∙ ap (λ (k : ℕ). map m.accepts (take k names)) before.counted)
               ∙ ap (λ (b : Bool). map m.accepts (take from names) ++ b ∷ []) accepts
               ∙ sym (map-append m.accepts (take from names) (state ∷ []))
               ∙ ap (map m.accepts) (sym next)
               ∙ ap (λ (k : ℕ). map m.accepts (take k names'))
-                  (let e : from + 1 ≡ length (rows ++ row ∷ []) = omega (arith, before.counted) in e);
+              (let e : from + 1 ≡ length (rows ++ row ∷ []) = omega (arith, before.counted) in e);
           rows_there = λ n r h. subst (λ (s : List Edge). HasEdgesOf s n r) (sym adds.1)
               (elim (slice_get-push_cases rows row n r h) [
-            | inl k ↦ kept_row edges adds.0 n from r (omega (arith, k.0, before.counted)) adds.2
-                (before.filed.rows_there n r k.1)
-            | inr k ↦ subst (λ (q : Row). HasEdgesOf (edges ++ adds.0) n q) k.1
-                (subst (λ (i : ℕ). HasEdgesOf (edges ++ adds.0) i row)
+                | inl k ↦ kept_row edges adds.0 n from r (omega (arith, k.0, before.counted)) adds.2
+                    (before.filed.rows_there n r k.1)
+                | inr k ↦ subst (λ (q : Row). HasEdgesOf (edges ++ adds.0) n q) k.1
+                    (subst (λ (i : ℕ). HasEdgesOf (edges ++ adds.0) i row)
                     (let e : from ≡ n = omega (arith, k.0, before.counted) in e)
-                (new_row edges adds.0 from row
+                    (new_row edges adds.0 from row
                     (All-weaker (λ e. e.from < length rows) (λ e. e.from < from)
                     (λ e lt. omega (arith, lt, before.counted)) edges before.filed.below) adds.2 first
                     (end ∙ ap (λ (s : List Edge). length s) adds.1)))
-          ]);
+              ]);
           below = subst (All (λ e. e.from < length (rows ++ row ∷ []))) (sym adds.1)
               (All-append (λ e. e.from < length (rows ++ row ∷ [])) edges adds.0
               (All-weaker (λ e. e.from < length rows) (λ e. e.from < length (rows ++ row ∷ []))
-                  (λ e lt. omega (arith, lt)) edges before.filed.below)
+              (λ e lt. omega (arith, lt)) edges before.filed.below)
               (All-weaker (λ e. e.from ≡ from) (λ e. e.from < length (rows ++ row ∷ []))
-                  (λ e is. omega (arith, is, before.counted)) adds.0 adds.2));
+              (λ e is. omega (arith, is, before.counted)) adds.0 adds.2));
         };
         counted = omega (arith, before.counted);
         within = omega arith;
@@ -201,6 +201,8 @@ module _ {S : Type 0} (eq : S → S → Bool) (own : S → Type 0) (m : Machine 
   pub all_done : (from : ℕ) (names : List S) (edges : List Edge) (rows : List Row) →
       IsPartWay eq own m limit from names edges rows → length names ≤ from
       → IsExplored eq own m limit (steps_from m 0 names) names edges × (length rows ≡ length names)
-  all_done from names edges rows part none =
-      (subst (λ (s : List S). IsExplored eq own m limit (steps_from m 0 s) names edges) (take_all from names none)
-          part.explored, omega (arith, part.counted, part.within))
+  all_done from names edges rows part none = (
+    subst (λ (s : List S). IsExplored eq own m limit (steps_from m 0 s) names edges) (take_all from names none)
+        part.explored,
+    omega (arith, part.counted, part.within),
+  )

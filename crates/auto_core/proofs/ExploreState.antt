@@ -51,27 +51,27 @@ module _ {S : Type 0} (eq : S → S → Bool) (decides : (x y : S) → Decides (
   state_reached place names edges named inside =
       let (more, same) = inside.grows in
       All-among (Reached m) names state inside.explored.reached
-          (subst (λ (s : List S). Among s state) (sym same)
-          (Among-left names0 more state (Among-slice_get names0 from state named)))
+      (subst (λ (s : List S). Among s state) (sym same)
+      (Among-left names0 more state (Among-slice_get names0 from state named)))
 
   pub state_taken : (place : ℕ) (names : List S) (edges : List Edge) (names' : List S) (edges' : List Edge) →
       slice_get names0 from ≡ Some state
       → IsInState eq own m limit names0 edges0 state from place names edges →
-          TakesEdge eq own m limit state from place names edges names' edges'
+      TakesEdge eq own m limit state from place names edges names' edges'
       → IsInState eq own m limit names0 edges0 state from (place + 1) names' edges'
   state_taken place names edges names' edges' named inside taken =
       let step : Step S = record { from = from; label = taken.label; to = taken.next } in
       let at : slice_get (steps_of m from state) place ≡ Some
-          (record { from = from; label = taken.label; to = taken.next }) =
+      (record { from = from; label = taken.label; to = taken.next }) =
       slice_get-map (λ (e : List Literal × S). record { from = from; label = e.0; to = e.1 }) (m.edges state) place
       ∙ ap (option_map (λ (e : List Literal × S). record { from = from; label = e.0; to = e.1 })) taken.there in
       record {
         explored = subst (λ (steps : List (Step S)). IsExplored eq own m limit steps names' edges')
             (append_assoc (steps_from m 0 (take from names0)) (take place (steps_of m from state)) (step ∷ [])
             ∙ ap (λ (s : List (Step S)). steps_from m 0 (take from names0) ++ s)
-                (sym (take-next (steps_of m from state) place step at)))
+            (sym (take-next (steps_of m from state) place step at)))
             (step_taken eq decides own m limit _ names edges state from place names' edges' inside.explored
-                (state_reached place names edges named inside) taken);
+            (state_reached place names edges named inside) taken);
         grows = elim (among_or_not eq decides names taken.next) [
           | inl h ↦ (inside.grows.0, taken.named ∙ insert_key-there eq decides names taken.next h ∙ inside.grows.1)
           | inr out ↦ (
@@ -88,8 +88,11 @@ module _ {S : Type 0} (eq : S → S → Bool) (decides : (x y : S) → Decides (
       added : (edge : Edge) → edge.from ≡ from → edges' ≡ insert_key same_edge edges edge →
           AddsEdgesOf from edges0 edges'
       added edge leaves same = elim (among_or_not same_edge same_edge-Decides edges edge) [
-        | inl h ↦ (inside.adds.0, same ∙ insert_key-there same_edge same_edge-Decides edges edge h ∙ inside.adds.1,
-            inside.adds.2)
+        | inl h ↦ (
+          inside.adds.0,
+          same ∙ insert_key-there same_edge same_edge-Decides edges edge h ∙ inside.adds.1,
+          inside.adds.2,
+        )
         | inr out ↦ (
           inside.adds.0 ++ edge ∷ [],
           same ∙ insert_key-new same_edge same_edge-Decides edges edge out
@@ -106,9 +109,9 @@ module _ {S : Type 0} (eq : S → S → Bool) (decides : (x y : S) → Decides (
       let (more, same) = inside.grows in
       let within : from < length names0 = slice_get_within names0 from state named in
       let count : length (steps_of m from state) ≡ length (m.edges state) = length-map (m.edges state)
-          (λ (e : List Literal × S). record { from = from; label = e.0; to = e.1 }) in
+      (λ (e : List Literal × S). record { from = from; label = e.0; to = e.1 }) in
       let whole : take place (steps_of m from state) ≡ steps_of m from state = take_all place
-          (steps_of m from state) (omega arith) in
+      (steps_of m from state) (omega arith) in
       let front : take (from + 1) names ≡ take from names0 ++ state ∷ [] =
       ap (take (from + 1)) same ∙ take-next (names0 ++ more) from state (slice_get-left names0 more from state named)
       ∙ ap (λ (s : List S). s ++ state ∷ []) (take-append-le from names0 more (omega arith)) in
@@ -116,7 +119,7 @@ module _ {S : Type 0} (eq : S → S → Bool) (decides : (x y : S) → Decides (
       subst (λ (steps : List (Step S)). IsExplored eq own m limit steps names edges)
       (ap (λ (s : List (Step S)). steps_from m 0 (take from names0) ++ s) whole
       ∙ ap (λ (k : ℕ). steps_from m 0 (take from names0) ++ steps_of m k state)
-          (let e : from ≡ 0 + length (take from names0) = omega arith in e)
+      (let e : from ≡ 0 + length (take from names0) = omega arith in e)
       ∙ sym (steps_from-push m 0 (take from names0) state)
       ∙ ap (steps_from m 0) (sym front))
       inside.explored

@@ -1,5 +1,5 @@
 -- What is put into a label is in it, and a label is determined by its members.
-use Rattle.std.proofs.Common.{◌≡◌, ℕ, ◌<◌, Bool, true, cond, List, [], ◌∷◌, ◌++◌, slice_get, Contains, ◌⊎◌, ◌↔◌}
+use Rattle.std.proofs.Common.{◌≡◌, ℕ, ◌<◌, Bool, true, cond, List, [], ◌∷◌, ◌++◌, Contains, ◌⊎◌, ◌↔◌}
 use Rattle.std.proofs.Common.{inl, inr, refl, sym, ap, ◌∙◌, subst, Some, None, arith}
 use Rattle.auto_core.specs.declared.labels.Literal.{Literal}
 use Rattle.auto_core.specs.LiteralSets.{precedes, IsLabel, put_literal, put_all}
@@ -141,8 +141,11 @@ IsLabel-put_literal l (m ∷ ms) h =
         (
           e,
           ByRecursion-from (λ x. precedes l x ≡ true) ms (λ x f. precedes-from_rank l x
-              (omega (arith, rank-below l m e,
-                  rank-below m x (ByRecursion-among (λ x. precedes m x ≡ true) ms x h.0 f)))),
+              (omega (
+                arith,
+                rank-below l m e,
+                rank-below m x (ByRecursion-among (λ x. precedes m x ≡ true) ms x h.0 f),
+              ))),
         ),
         h,
       )
@@ -171,9 +174,9 @@ same_label [] (y ∷ ys) h k there back = absurd (back y (inl refl))
 same_label (x ∷ xs) [] h k there back = absurd (there x (inl refl))
 same_label (x ∷ xs) (y ∷ ys) h k there back =
     let after_x : (l : Literal) → Among xs l → rank x < rank l = λ l f. rank-below x l
-        (ByRecursion-among (λ m. precedes x m ≡ true) xs l h.0 f) in
+    (ByRecursion-among (λ m. precedes x m ≡ true) xs l h.0 f) in
     let after_y : (l : Literal) → Among ys l → rank y < rank l = λ l f. rank-below y l
-        (ByRecursion-among (λ m. precedes y m ≡ true) ys l k.0 f) in
+    (ByRecursion-among (λ m. precedes y m ≡ true) ys l k.0 f) in
     let heads : rank x ≡ rank y = elim (there x (inl refl)) [
       | inl e ↦ ap rank (sym e)
       | inr f ↦ elim (back y (inl refl))
@@ -207,9 +210,13 @@ put_all-put_all ys xs zs hx hy hz = same_label (put_all (put_all ys xs) zs) (put
 -- the clause `passes` of `Auto::label` follows from its clause `edge`
 pub passes_by_edge : {S : Type 0} (edges : List (List Literal × S)) (place : ℕ) (old new : List Literal)
     → PutsEdge edges place old new → PassesEdge edges place old new
-passes_by_edge edges place old new (label, next, there, (ordered, same)) =
-    (label, next, there, λ a. subst (λ (s : List Literal). Passes s a ↔ (Passes label a × Passes old a)) (sym same)
-        (Passes-put_all label old a))
+passes_by_edge edges place old new (label, next, there, (ordered, same)) = (
+  label,
+  next,
+  there,
+  λ a. subst (λ (s : List Literal). Passes s a ↔ (Passes label a × Passes old a)) (sym same)
+      (Passes-put_all label old a),
+)
 
 -- what was there stays
 pub kept_by_put_all : (ls old new : List Literal) → new ≡ put_all ls old → (l : Literal) → Contains old l →

@@ -50,8 +50,11 @@ pub spread_new : (marked : List Bool) (work : List ℕ) (state : ℕ) → state 
 spread_new marked work state lt off = record {
   size = length-set marked state true;
   kept = λ n h. marked_more marked state n lt h;
-  all = λ n h. elim h [ inl e ↦ ap (λ (k : ℕ). get_or (set marked state true) k false) (sym e)
-      ∙ get_or-set_same marked state true false lt | inr f ↦ absurd f ];
+  all = λ n h. elim h [
+    | inl e ↦ ap (λ (k : ℕ). get_or (set marked state true) k false) (sym e)
+        ∙ get_or-set_same marked state true false lt
+    | inr f ↦ absurd f
+  ];
   only = λ n h. elim (same_or_not n state) [
     | inl e ↦ inr (inl (sym e))
     | inr ne ↦ inl (sym (get_or-set_other marked state n true false ne) ∙ h)
@@ -98,10 +101,10 @@ spread_then states state m0 w0 m1 w1 m2 w2 before after = record {
 pub spread_more : (states : List ℕ) (i : ℕ) (d : ℕ) (m0 : List Bool) (w0 : List ℕ) (m1 : List Bool) (w1 : List ℕ)
     (m2 : List Bool) (w2 : List ℕ) → i < length states
     → Spreads (take i states) m0 w0 m1 w1 → Spreads (get_or states i d ∷ []) m1 w1 m2 w2 →
-        Spreads (take (i + 1) states) m0 w0 m2 w2
+    Spreads (take (i + 1) states) m0 w0 m2 w2
 spread_more states i d m0 w0 m1 w1 m2 w2 lt before after =
     subst (λ (s : List ℕ). Spreads s m0 w0 m2 w2) (sym (take_more states i d lt))
-        (spread_then (take i states) (get_or states i d) m0 w0 m1 w1 m2 w2 before after)
+    (spread_then (take i states) (get_or states i d) m0 w0 m1 w1 m2 w2 before after)
 
 -- ---- the sources
 
@@ -112,12 +115,12 @@ source_put edges rows edge rows' has lt same = subst (HasSources (edges ++ edge 
   all = λ e h below. elim (Among-append edges (edge ∷ []) e h) [
     | inl f ↦ (let r = has.all e f (let l = length-set rows edge.to (get_or rows edge.to [] ++ edge.from ∷ []) in
         omega arith) in elim (same_or_not e.to edge.to) [
-      | inl to ↦ subst (λ (s : List ℕ). Among s e.from) (sym (here e.to to))
-          (Among-left (get_or rows edge.to []) (edge.from ∷ []) e.from
-          (subst (λ (k : ℕ). Among (get_or rows k []) e.from) to r))
-      | inr ne ↦ subst (λ (s : List ℕ). Among s e.from)
-          (sym (get_or-set_other rows edge.to e.to (get_or rows edge.to [] ++ edge.from ∷ []) [] ne)) r
-    ])
+          | inl to ↦ subst (λ (s : List ℕ). Among s e.from) (sym (here e.to to))
+              (Among-left (get_or rows edge.to []) (edge.from ∷ []) e.from
+              (subst (λ (k : ℕ). Among (get_or rows k []) e.from) to r))
+          | inr ne ↦ subst (λ (s : List ℕ). Among s e.from)
+              (sym (get_or-set_other rows edge.to e.to (get_or rows edge.to [] ++ edge.from ∷ []) [] ne)) r
+        ])
     | inr f ↦ elim f [
       | inl g ↦ subst (λ (s : List ℕ). Among s e.from) (sym (here e.to (ap (λ (x : Edge). x.to) (sym g))))
           (Among-right (get_or rows edge.to []) (edge.from ∷ []) e.from (inl (ap (λ (x : Edge). x.from) g)))
@@ -127,10 +130,13 @@ source_put edges rows edge rows' has lt same = subst (HasSources (edges ++ edge 
   only = λ n p h. elim (same_or_not n edge.to) [
     | inl to ↦ elim (Among-append (get_or rows edge.to []) (edge.from ∷ []) p
         (subst (λ (s : List ℕ). Among s p) (here n to) h)) [
-      | inl f ↦ (let (e, there, from, leads) = has.only edge.to p f in
-          (e, Among-left edges (edge ∷ []) e there, from, leads ∙ sym to))
-      | inr f ↦ elim f [ inl g ↦ (edge, Among-right edges (edge ∷ []) edge (inl refl), g, sym to) | inr g ↦ absurd g ]
-    ]
+          | inl f ↦ (let (e, there, from, leads) = has.only edge.to p f in
+              (e, Among-left edges (edge ∷ []) e there, from, leads ∙ sym to))
+          | inr f ↦ elim f [
+            | inl g ↦ (edge, Among-right edges (edge ∷ []) edge (inl refl), g, sym to)
+            | inr g ↦ absurd g
+          ]
+        ]
     | inr ne ↦ (let (e, there, from, leads) =
         has.only n p (subst (λ (s : List ℕ). Among s p)
         (get_or-set_other rows edge.to n (get_or rows edge.to [] ++ edge.from ∷ []) [] ne) h) in
@@ -148,7 +154,7 @@ pub source_more : (edges : List Edge) (i : ℕ) (edge : Edge) (rows rows' : List
     → rows' ≡ set rows edge.to (get_or rows edge.to [] ++ edge.from ∷ []) → HasSources (take (i + 1) edges) rows'
 source_more edges i edge rows rows' lt is has below same =
     subst (λ (s : List Edge). HasSources s rows') (ap (λ (e : Edge). take i edges ++ e ∷ []) is
-        ∙ sym (take_more edges i edge lt)) (source_put (take i edges) rows edge rows' has below same)
+    ∙ sym (take_more edges i edge lt)) (source_put (take i edges) rows edge rows' has below same)
 
 -- ---- marks that are right
 
@@ -162,7 +168,7 @@ alive_before g edge n p there from to (k, accepted) = (
     edge.to,
     Contains-from_Among (edges_from p g.edges) (edge.label, edge.to)
         (Among-map (λ (e : Edge). (e.label, e.to)) (filter (λ e. eqb e.from p) g.edges) edge
-            (Among-filter_back (λ (e : Edge). eqb e.from p) g.edges edge there ((Decides-eqb edge.from p).1 from))),
+        (Among-filter_back (λ (e : Edge). eqb e.from p) g.edges edge there ((Decides-eqb edge.from p).1 from))),
     tt,
     subst (λ (i : ℕ). AcceptsFrom (graph_machine g) i (replicate k None)) (sym to) accepted,
   ),
@@ -171,9 +177,9 @@ alive_before g edge n p there from to (k, accepted) = (
 pub spread_step : (g : Graph) (rows : List (List ℕ)) (state : ℕ) (row : List ℕ) (marked : List Bool)
     (work0 work : List ℕ) (marked' : List Bool) (work' : List ℕ)
     → HasSources g.edges rows → length rows ≡ length g.accepting → row ≡ get_or rows state [] →
-        All (λ e. e.from < length g.accepting × e.to < length g.accepting) g.edges
+    All (λ e. e.from < length g.accepting × e.to < length g.accepting) g.edges
     → IsSearch g marked work0 → work0 ≡ work ++ state ∷ [] → Spreads row marked work marked' work' →
-        IsSearch g marked' work'
+    IsSearch g marked' work'
 spread_step g rows state row marked work0 work marked' work' sources size is between search popped spread = record {
   size = spread.size ∙ search.size;
   inside = λ n h. elim (spread.added n h) [
@@ -197,8 +203,8 @@ spread_step g rows state row marked work0 work marked' work' sources size is bet
           | inl here ↦ inr (λ e there to. spread.all e.from (subst (λ (s : List ℕ). Among s e.from) (sym is)
               (subst (λ (j : ℕ). Among (get_or rows j []) e.from) (to ∙ sym here)
               (sources.all e there
-                  (let l = (All-among (λ e. e.from < length g.accepting × e.to < length g.accepting) g.edges e
-                  between there).1 in omega (arith, size))))))
+              (let l = (All-among (λ e. e.from < length g.accepting × e.to < length g.accepting) g.edges e
+              between there).1 in omega (arith, size))))))
           | inr out ↦ absurd out
         ]
       ]
@@ -222,13 +228,13 @@ pub state_inside : (g : Graph) (marked : List Bool) (work0 work : List ℕ) (sta
     work0 ≡ work ++ state ∷ [] → state < length g.accepting
 state_inside g marked work0 work state search popped =
     let l = search.inside state
-        (subst (λ (s : List ℕ). Among s state) (sym popped) (Among-right work (state ∷ []) state (inl refl))) in
-        omega (arith, search.size)
+    (subst (λ (s : List ℕ). Among s state) (sym popped) (Among-right work (state ∷ []) state (inl refl))) in
+    omega (arith, search.size)
 
 pub row_inside : (g : Graph) (rows : List (List ℕ)) (state : ℕ) (row : List ℕ) (marked : List Bool) →
     HasSources g.edges rows → row ≡ get_or rows state []
     → All (λ e. e.from < length g.accepting × e.to < length g.accepting) g.edges →
-        length marked ≡ length g.accepting → All (λ n. n < length marked) row
+    length marked ≡ length g.accepting → All (λ n. n < length marked) row
 row_inside g rows state row marked sources is between size = All-from_among (λ n. n < length marked) row (λ n h.
     let (e, there, from, leads) = sources.only state n (subst (λ (s : List ℕ). Among s n) is h) in
     let l = (All-among (λ e. e.from < length g.accepting × e.to < length g.accepting) g.edges e between there).0 in
@@ -243,7 +249,7 @@ marked_alive g marked search n = (search.sound n, λ h. back h.0 n h.1)
     back zero n h = search.accepting n h
     back (suc k) n (label, next, edge, passes, rest) =
         let (e, filtered, parts) = map-Among (λ (e : Edge). (e.label, e.to)) (filter (λ e. eqb e.from n) g.edges)
-            (label, next) (Among-from_Contains (edges_from n g.edges) (label, next) edge) in
+        (label, next) (Among-from_Contains (edges_from n g.edges) (label, next) edge) in
         let kept = Among-filter (λ (e : Edge). eqb e.from n) g.edges e filtered in
         let from : e.from ≡ n = (Decides-eqb e.from n).0 kept.1 in
         elim (search.pending next (back k next rest)) [
@@ -256,10 +262,10 @@ marked_alive g marked search n = (search.sound n, λ h. back h.0 n h.1)
 pub begun_more : (accepting : List Bool) (i : ℕ) (marked : List Bool) (work : List ℕ) (b : Bool)
     (marked' : List Bool) (work' : List ℕ) → i < length accepting → b ≡ get_or accepting i false
     → marked ≡ take i accepting → ((n : ℕ) → IsMarked marked n → Among work n) →
-        ((n : ℕ) → Among work n → (n < i) × IsMarked marked n)
+    ((n : ℕ) → Among work n → (n < i) × IsMarked marked n)
     → marked' ≡ marked ++ b ∷ [] → work' ≡ work ++ cond b (i ∷ []) []
     → (marked' ≡ take (i + 1) accepting) × ((n : ℕ) → IsMarked marked' n → Among work' n) ×
-        ((n : ℕ) → Among work' n → (n < i + 1) × IsMarked marked' n)
+    ((n : ℕ) → Among work' n → (n < i + 1) × IsMarked marked' n)
 begun_more accepting i marked work b marked' work' lt is so_far works known mark then = (
   mark ∙ ap (λ (s : List Bool). s ++ b ∷ []) so_far ∙ ap (λ (c : Bool). take i accepting ++ c ∷ []) is
       ∙ sym (take_more accepting i false lt),
@@ -310,20 +316,25 @@ begun_more accepting i marked work b marked' work' lt is so_far works known mark
         | inl e ↦ (let on : b ≡ true = sym (at_end marked b) ∙ ap (λ (k : ℕ). get_or (marked ++ b ∷ []) k false)
             (sym e) ∙ h in
             Among-right work (cond b (i ∷ []) []) n
-                (subst (λ (c : Bool). Among (cond c (i ∷ []) []) n) (sym on) (inl (sym long ∙ sym e))))
+            (subst (λ (c : Bool). Among (cond c (i ∷ []) []) n) (sym on) (inl (sym long ∙ sym e))))
         | inr l ↦ absurd (true-false (sym h ∙ past_end marked b n l))
       ]
     ]
 
     known_more : (n : ℕ) → Among (work ++ cond b (i ∷ []) []) n → (n < i + 1) × IsMarked marked' n
     known_more n h = elim (Among-append work (cond b (i ∷ []) []) n h) [
-      | inl f ↦ (let (l, k) = known n f in
-          (omega arith, ap (λ (s : List Bool). get_or s n false) mark ∙ in_front marked b n (omega (arith, l, long))
-          ∙ k))
+      | inl f ↦ (let (l, k) = known n f in (
+        omega arith,
+        ap (λ (s : List Bool). get_or s n false) mark ∙ in_front marked b n (omega (arith, l, long))
+            ∙ k,
+      ))
       | inr f ↦ elim (told b) [
         | inl on ↦ elim (subst (λ (c : Bool). Among (cond c (i ∷ []) []) n) on f) [
-          | inl e ↦ (omega (arith, e), ap (λ (s : List Bool). get_or s n false) mark
-              ∙ ap (λ (k : ℕ). get_or (marked ++ b ∷ []) k false) (sym e ∙ sym long) ∙ at_end marked b ∙ on)
+          | inl e ↦ (
+            omega (arith, e),
+            ap (λ (s : List Bool). get_or s n false) mark
+                ∙ ap (λ (k : ℕ). get_or (marked ++ b ∷ []) k false) (sym e ∙ sym long) ∙ at_end marked b ∙ on,
+          )
           | inr g ↦ absurd g
         ]
         | inr off ↦ absurd (subst (λ (c : Bool). Among (cond c (i ∷ []) []) n) off f)

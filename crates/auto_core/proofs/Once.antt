@@ -196,8 +196,8 @@ module _ {X : Type 0} (eq : X → X → Bool) (decides : (x y : X) → Decides (
       let p : X → Bool = λ z. not (eq x z) in
       let rest : List X = once_each eq xs in
       let start : once_each eq (x ∷ (xs ++ y ∷ [])) ≡ x ∷ filter (λ z. not (eq x z))
-          (insert_key eq (once_each eq xs) y) = ap (λ (s : List X). x ∷ filter (λ z. not (eq x z)) s)
-          (once_each-push xs y) in
+      (insert_key eq (once_each eq xs) y) = ap (λ (s : List X). x ∷ filter (λ z. not (eq x z)) s)
+      (once_each-push xs y) in
       elim (among_or_not (x ∷ filter (λ z. not (eq x z)) (once_each eq xs)) y) [
         | inl h ↦ start ∙ kept x xs y h ∙ sym (insert_key-there (x ∷ filter (λ z. not (eq x z)) (once_each eq xs)) y h)
         | inr out ↦ start ∙ added x xs y out
@@ -213,7 +213,7 @@ module _ {X : Type 0} (eq : X → X → Bool) (decides : (x y : X) → Decides (
           | inl e ↦ ap (filter (λ z. not (eq x z))) (insert_key-new (once_each eq xs) y out)
               ∙ filter-one (λ z. not (eq x z)) (once_each eq xs) y
               ∙ ap (λ (b : Bool). filter (λ z. not (eq x z)) (once_each eq xs) ++ cond (not b) (y ∷ []) [])
-                  ((decides x y).1 e) ∙ append-nil (filter (λ z. not (eq x z)) (once_each eq xs))
+              ((decides x y).1 e) ∙ append-nil (filter (λ z. not (eq x z)) (once_each eq xs))
           | inr f ↦ absurd (out (Among-filter (λ z. not (eq x z)) (once_each eq xs) y f).0)
         ]
       ])
@@ -224,9 +224,9 @@ module _ {X : Type 0} (eq : X → X → Bool) (decides : (x y : X) → Decides (
       added x xs y out =
           let other : not (eq x y) ≡ true = not_eq x y (λ e. out (inl e)) in
           let absent : Among (once_each eq xs) y →
-              ⊥ = λ f. out (inr (Among-filter_back (λ z. not (eq x z)) (once_each eq xs) y f other)) in
+          ⊥ = λ f. out (inr (Among-filter_back (λ z. not (eq x z)) (once_each eq xs) y f other)) in
           ap (λ (s : List X). x ∷ s) (ap (filter (λ z. not (eq x z))) (insert_key-new (once_each eq xs) y absent)
-              ∙ filter-one (λ z. not (eq x z)) (once_each eq xs) y
+          ∙ filter-one (λ z. not (eq x z)) (once_each eq xs) y
           ∙ ap (λ (b : Bool). filter (λ z. not (eq x z)) (once_each eq xs) ++ cond b (y ∷ []) []) other)
 
   -- ---- places
@@ -244,8 +244,11 @@ module _ {X : Type 0} (eq : X → X → Bool) (decides : (x y : X) → Decides (
   position-Among [] x h = absurd h
   position-Among (y ∷ xs) x h =
       elim (told (eq x y)) [
-        | inl e ↦ (let f = place-here y x xs e in omega arith, ap (slice_get (y ∷ xs)) (place-here y x xs e)
-            ∙ ap (λ (z : X). Some z) (sym ((decides x y).0 e)))
+        | inl e ↦ (
+          let f = place-here y x xs e in omega arith,
+          ap (slice_get (y ∷ xs)) (place-here y x xs e)
+              ∙ ap (λ (z : X). Some z) (sym ((decides x y).0 e)),
+        )
         | inr e ↦ elim h [
           | inl f ↦ absurd (true-false (sym ((decides x y).1 (sym f)) ∙ e))
           | inr f ↦ let r : (position_or_len (eq x) xs < length xs) ×

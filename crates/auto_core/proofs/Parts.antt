@@ -1,11 +1,10 @@
 -- A graph of an automaton is the part of it that its start reaches.
-use Rattle.std.proofs.Common.{◌≡◌, ℕ, zero, suc, ◌+◌, ◌<◌, Bool, List, [], ◌∷◌, length, map, slice_get, Some, ◌↔◌}
-use Rattle.std.proofs.Common.{inl, inr, refl, sym, ap, ◌∙◌, subst, arith, Contains}
+use Rattle.std.proofs.Common.{◌≡◌, ℕ, zero, suc, ◌+◌, Bool, List, [], ◌∷◌, map, slice_get, Some}
+use Rattle.std.proofs.Common.{inl, inr, refl, sym, ap, ◌∙◌, subst, arith}
 use Rattle.std.specs.Bool.{Decides}
 use Rattle.std.specs.List.{position_or_len}
 use Rattle.std.proofs.lemmas.Option.{same_Some}
 use Rattle.std.proofs.lemmas.List.Elements.{All-contains}
-use Rattle.auto_core.specs.declared.labels.Literal.{Literal}
 use Rattle.auto_core.specs.declared.tables.Edge.{Edge}
 use Rattle.auto_core.specs.Machine.{Machine}
 use Rattle.auto_core.specs.Graph.{Graph, Reached, at_start, by_edge, IsReachedPart, IsStepOf}
@@ -39,28 +38,32 @@ module _ {S : Type 0} (eq : S → S → Bool) (decides : (x y : S) → Decides (
   reached_among s (by_edge {s = t} label next r there) =
       let (n, lt, at) = slice_get-Among names t (reached_among t r) in
       named next (inr (Among-map (λ (e : Step S). e.to) (steps_from m 0 names)
-          (record { from = 0 + n; label = label; to = next })
-          (steps-there m 0 names n t label next at (Among-from_Contains (m.edges t) (label, next) there))))
+      (record { from = 0 + n; label = label; to = next })
+      (steps-there m 0 names n t label next at (Among-from_Contains (m.edges t) (label, next) there))))
 
   to_step : (e : Edge) → Among g.edges e → IsStepOf m names e
   to_step e h =
       let (step, k, same) = map-Among (numbered eq names) (steps_from m 0 names) e
-          (once-Among same_edge same_edge-Decides (map (numbered eq names) (steps_from m 0 names)) e
-          (subst (λ (s : List Edge). Among s e) is.edges h)) in
+      (once-Among same_edge same_edge-Decides (map (numbered eq names) (steps_from m 0 names)) e
+      (subst (λ (s : List Edge). Among s e) is.edges h)) in
       let (n, s, at, from, there) = steps-from m 0 names step k in
       let here : n ≡ step.from = omega (arith, from) in
       let known : Among names step.to = named step.to
-          (inr (Among-map (λ (e : Step S). e.to) (steps_from m 0 names) step k)) in
-      subst (IsStepOf m names) same
-      (s, step.to, subst (λ (i : ℕ). slice_get names i ≡ Some s) here at,
-          (position-Among eq decides names step.to known).1, Contains-from_Among (m.edges s) (step.label, step.to)
-          there)
+      (inr (Among-map (λ (e : Step S). e.to) (steps_from m 0 names) step k)) in
+      subst (IsStepOf m names) same (
+        s,
+        step.to,
+        subst (λ (i : ℕ). slice_get names i ≡ Some s) here at,
+        (position-Among eq decides names step.to known).1,
+        Contains-from_Among (m.edges s) (step.label, step.to)
+            there,
+      )
 
   from_step : (e : Edge) → IsStepOf m names e → Among g.edges e
   from_step e (p, q, at, to, there) =
       let found = position-Among eq decides names q (Among-slice_get names e.to q to) in
       let number : position_or_len (eq q) names ≡ e.to = one_place names (position_or_len (eq q) names) e.to q
-          (Apart-from_AllPairs names is.different) found.1 to in
+      (Apart-from_AllPairs names is.different) found.1 to in
       let zero_more : 0 + e.from ≡ e.from = omega arith in
       let same : ◌≡◌ {A = Edge} (record { from = 0 + e.from; label = e.label; to = position_or_len (eq q) names }) e =
       ap (λ (k : ℕ). record { from = k; label = e.label; to = position_or_len (eq q) names }) zero_more
@@ -69,17 +72,21 @@ module _ {S : Type 0} (eq : S → S → Bool) (decides : (x y : S) → Decides (
       subst (λ (s : List Edge). Among s e) (sym is.edges)
       (Among-once same_edge same_edge-Decides (map (numbered eq names) (steps_from m 0 names)) e
       (subst (Among (map (numbered eq names) (steps_from m 0 names))) same
-          (Among-map (numbered eq names) (steps_from m 0 names) _ step)))
+      (Among-map (numbered eq names) (steps_from m 0 names) _ step)))
 
   pub reached_part : IsReachedPart m names g
   reached_part = record {
     start = ap (λ (s : List S). slice_get s 0) is.named;
     different = is.different;
-    reached = λ s. ((λ h. All-contains (Reached m) names s is.reached h),
-        (λ r. Contains-from_Among names s (reached_among s r)));
+    reached = λ s. (
+      (λ h. All-contains (Reached m) names s is.reached h),
+      (λ r. Contains-from_Among names s (reached_among s r)),
+    );
     accepting = is.accepting;
-    edges = λ e. ((λ h. to_step e (Among-from_Contains g.edges e h)),
-        (λ h. Contains-from_Among g.edges e (from_step e h)));
+    edges = λ e. (
+      (λ h. to_step e (Among-from_Contains g.edges e h)),
+      (λ h. Contains-from_Among g.edges e (from_step e h)),
+    );
     once = AllPairs-from_Apart g.edges
         (subst Apart (sym is.edges)
         (Apart-once same_edge same_edge-Decides (map (numbered eq names) (steps_from m 0 names))));

@@ -34,7 +34,7 @@ put_literal-among l [] h f = absurd f
 put_literal-among l (x ∷ xs) h (inl e) = put_literal-there l x xs (sym e)
 put_literal-among l (x ∷ xs) h (inr f) =
     put_literal-after l x xs (ByRecursion-among (λ m. precedes x m ≡ true) xs l h.0 f)
-        ∙ ap (λ (s : List Literal). x ∷ s) (put_literal-among l xs h.1 f)
+    ∙ ap (λ (s : List Literal). x ∷ s) (put_literal-among l xs h.1 f)
 
 -- an insertion between the smaller and the greater
 pub insert-put_literal : (l d : Literal) (xs : List Literal) (i : ℕ) → i ≤ length xs →
@@ -46,7 +46,7 @@ insert-put_literal l d (x ∷ xs) zero le small great =
     sym (put_literal-before l x xs (precedes-from_rank l x (great (omega arith))))
 insert-put_literal l d (x ∷ xs) (suc i) le small great =
     ap (λ (s : List Literal). x ∷ s)
-        (insert-put_literal l d xs i (omega arith) (λ k lt. small (suc k) (omega arith)) (λ lt. great (omega arith)))
+    (insert-put_literal l d xs i (omega arith) (λ k lt. small (suc k) (omega arith)) (λ lt. great (omega arith)))
     ∙ sym (put_literal-after l x xs (precedes-from_rank x l (small 0 (omega arith))))
 
 -- the ranks rise along a label
@@ -72,22 +72,25 @@ module _ (l : Literal) (xs : List Literal) (ordered : IsLabel xs) where
   rises : IsNonDecreasingBy (λ y. ordering_index (literal_cmp y l)) xs
   rises = IsNonDecreasingBy-from_default (λ y. ordering_index (literal_cmp y l)) xs l (λ i j le lt.
       let h : ordering_index (nat_cmp (rank (get_or xs i l)) (rank l)) ≤ ordering_index
-          (nat_cmp (rank (get_or xs j l)) (rank l)) = rising_index _ _ _ (rank-rise l xs ordered i j le lt) in
-      omega (arith, ap ordering_index (literal_cmp-rank (get_or xs i l) l),
-          ap ordering_index (literal_cmp-rank (get_or xs j l) l)))
+      (nat_cmp (rank (get_or xs j l)) (rank l)) = rising_index _ _ _ (rank-rise l xs ordered i j le lt) in
+      omega (
+        arith,
+        ap ordering_index (literal_cmp-rank (get_or xs i l) l),
+        ap ordering_index (literal_cmp-rank (get_or xs j l) l),
+      ))
 
   -- a literal that is found is there
   pub found : (at : ℕ) → IsSearchInRange (Ok at) (length xs) → IsBinarySearchResult (λ y. literal_cmp y l) xs
       (Ok at) → xs ≡ put_literal l xs
   found at in_range equal = sym (put_literal-among l xs ordered (Among-get_or xs at l in_range
       (rank-same _ l (ranked (rank (get_or xs at l)) (rank l) _
-          (sym (equal l) ∙ literal_cmp-rank (get_or xs at l) l)))))
+      (sym (equal l) ∙ literal_cmp-rank (get_or xs at l) l)))))
 
   -- the place where it isn't found is its place in the order
   pub placed : (at : ℕ) → IsSearchInRange (Err at) (length xs) → IsBinarySearchResult (λ y. literal_cmp y l) xs
       (Err at) → insert xs at l ≡ put_literal l xs
   placed at in_range parted = insert-put_literal l l xs at in_range
       (λ k lt. ranked (rank (get_or xs k l)) (rank l) _
-          (sym ((parted rises).0 k l (omega arith) lt) ∙ literal_cmp-rank (get_or xs k l) l))
+      (sym ((parted rises).0 k l (omega arith) lt) ∙ literal_cmp-rank (get_or xs k l) l))
       (λ lt. ranked (rank (get_or xs at l)) (rank l) _ (sym ((parted rises).1 at l (omega arith) lt)
-          ∙ literal_cmp-rank (get_or xs at l) l))
+      ∙ literal_cmp-rank (get_or xs at l) l))

@@ -1,9 +1,8 @@
 -- When no state is left, what was seen is the graph of the automaton.
-use Rattle.std.proofs.Common.{◌≡◌, ℕ, zero, suc, ◌+◌, ◌<◌, ◌≤◌, ◌^◌, Bool, false, eqb, List, [], ◌∷◌, length, map}
-use Rattle.std.proofs.Common.{filter, get_or, slice_get, Some, inl, inr, ◌⊎◌, ◌↔◌, refl, sym, ap, ◌∙◌, subst, arith}
+use Rattle.std.proofs.Common.{◌≡◌, ℕ, zero, suc, ◌+◌, ◌<◌, ◌≤◌, ◌^◌, Bool, List, [], ◌∷◌, length, map}
+use Rattle.std.proofs.Common.{slice_get, Some, inl, inr, ◌⊎◌, refl, sym, ap, ◌∙◌, subst, arith}
 use Rattle.std.specs.Bool.{Decides}
 use Rattle.std.specs.List.{position_or_len}
-use Rattle.std.proofs.lemmas.Bool.Decides.{Decides-eqb}
 use Rattle.std.proofs.lemmas.List.{take_all}
 use Rattle.std.proofs.lemmas.List.Elements.{All-same, All-nil, All-cons}
 use Rattle.std.proofs.lemmas.Option.{same_Some}
@@ -11,15 +10,15 @@ use Rattle.indexmap.specs.IndexSet.{insert_key}
 use Rattle.auto_core.specs.declared.labels.Literal.{Literal}
 use Rattle.auto_core.specs.declared.tables.Edge.{Edge}
 use Rattle.auto_core.specs.declared.tables.Row.{Row}
-use Rattle.auto_core.specs.Machine.{Machine, Letter, AcceptsFrom, Accepts}
+use Rattle.auto_core.specs.Machine.{Machine}
 use Rattle.auto_core.specs.inner.Rows.{IsFiled}
-use Rattle.auto_core.specs.Graph.{Graph, Reached, at_start, by_edge, ReachesMoreThan, edges_from, graph_machine}
+use Rattle.auto_core.specs.Graph.{Graph, Reached, at_start, by_edge, ReachesMoreThan}
 use Rattle.auto_core.specs.inner.Order.{Step, IsGraphOf, same_edge, numbered, steps_from, steps_of}
 use Rattle.auto_core.specs.inner.Exploring.{IsExplored, AreFiled}
-use Rattle.auto_core.proofs.Members.{Among, Contains-from_Among, Among-from_Contains}
+use Rattle.auto_core.proofs.Members.{Among, Among-from_Contains}
 use Rattle.auto_core.proofs.SameLabel.{same_edge-Decides}
 use Rattle.auto_core.proofs.Once.{Apart, AllPairs-from_Apart, Apart-from_AllPairs, Among-append, Among-left}
-use Rattle.auto_core.proofs.Once.{Among-right, slice_get-Among, Among-filter, Among-filter_back, Among-once}
+use Rattle.auto_core.proofs.Once.{Among-right, slice_get-Among}
 use Rattle.auto_core.proofs.Once.{once-Among, position-Among}
 use Rattle.auto_core.proofs.Steps.{Among-map, map-Among, All-among, All-from_among, names-among, names-apart}
 
@@ -67,12 +66,12 @@ steps-there m k (t ∷ ss) zero s label next h there =
     Among-left (steps_of m k t) (steps_from m (suc k) ss) (record { from = k + 0; label = label; to = next })
     (subst (λ (i : ℕ). Among (steps_of m k t) (record { from = i; label = label; to = next })) e
     (Among-map (λ (e : List Literal × _). record { from = k; label = e.0; to = e.1 }) (m.edges t) (label, next)
-        (subst (λ (z : _). Among (m.edges z) (label, next)) (sym (same_Some t s h)) there)))
+    (subst (λ (z : _). Among (m.edges z) (label, next)) (sym (same_Some t s h)) there)))
 steps-there m k (t ∷ ss) (suc n) s label next h there =
     let e : suc k + n ≡ k + suc n = omega arith in
     Among-right (steps_of m k t) (steps_from m (suc k) ss) (record { from = k + suc n; label = label; to = next })
     (subst (λ (i : ℕ). Among (steps_from m (suc k) ss) (record { from = i; label = label; to = next })) e
-        (steps-there m (suc k) ss n s label next h there))
+    (steps-there m (suc k) ss n s label next h there))
 
 pub steps-from : {S : Type 0} (m : Machine S) (k : ℕ) (ss : List S) (step : Step S) → Among (steps_from m k ss) step
     → (n : ℕ) × (s : S) × (slice_get ss n ≡ Some s) × (step.from ≡ k + n) × Among (m.edges s) (step.label, step.to)
@@ -81,12 +80,12 @@ steps-from m k (t ∷ ss) step h =
     elim (Among-append (steps_of m k t) (steps_from m (suc k) ss) step h) [
       | inl f ↦ let (e, there, same) =
           map-Among (λ (e : List Literal × _). record { from = k; label = e.0; to = e.1 }) (m.edges t) step f in (
-        0,
-        t,
-        refl,
-        (let i : k ≡ step.from = ap (λ (z : Step _). z.from) same in omega arith),
-        subst (λ (z : Step _). Among (m.edges t) (z.label, z.to)) same there,
-      )
+            0,
+            t,
+            refl,
+            (let i : k ≡ step.from = ap (λ (z : Step _). z.from) same in omega arith),
+            subst (λ (z : Step _). Among (m.edges t) (z.label, z.to)) same there,
+          )
       | inr f ↦ let (n, s, at, from, there) = steps-from m (suc k) ss step f in
           (suc n, s, at, omega (arith, from), there)
     ]
@@ -98,10 +97,10 @@ module _ {S : Type 0} (eq : S → S → Bool) (decides : (x y : S) → Decides (
   pub start_seen : (names0 names : List S) (edges : List Edge) (start : S) → names0 ≡ [] → edges ≡ [] →
       start ≡ m.start → own start
       → position_or_len (eq start) names0 < limit → names ≡ insert_key eq names0 start →
-          IsExplored eq own m limit [] names edges
+      IsExplored eq own m limit [] names edges
   start_seen names0 names edges start none no_edges is owned room named =
       let alone : names ≡ m.start ∷ [] = named ∙ ap (λ (s : List S). insert_key eq s start) none
-          ∙ ap (λ (s : S). s ∷ []) is in
+      ∙ ap (λ (s : S). s ∷ []) is in
       let nowhere : position_or_len (eq start) names0 ≡ 0 = ap (position_or_len (eq start)) none in
       record {
         named = alone;
@@ -115,9 +114,13 @@ module _ {S : Type 0} (eq : S → S → Bool) (decides : (x y : S) → Decides (
   pub start_too_many : (names0 : List S) (start : S) → names0 ≡ [] → limit ≤ position_or_len (eq start) names0 →
       ReachesMoreThan m limit
   start_too_many names0 start none full =
-      let nowhere : position_or_len (eq start) names0 ≡ 0 = ap (position_or_len (eq start)) none in
-      (m.start ∷ [], AllPairs-from_Apart (m.start ∷ []) ((λ f. f), tt), All-cons (Reached m) m.start [] at_start
-          (All-nil (Reached m)), omega (arith, full))
+      let nowhere : position_or_len (eq start) names0 ≡ 0 = ap (position_or_len (eq start)) none in (
+        m.start ∷ [],
+        AllPairs-from_Apart (m.start ∷ []) ((λ f. f), tt),
+        All-cons (Reached m) m.start [] at_start
+            (All-nil (Reached m)),
+        omega (arith, full),
+      )
 
   -- ---- all reached states are named
 
@@ -129,7 +132,7 @@ module _ {S : Type 0} (eq : S → S → Bool) (decides : (x y : S) → Decides (
         let (n, lt, at) = slice_get-Among names s h in
         names-among eq decides own m limit (steps_from m 0 names) names edges seen next
         (inr (Among-map (λ (e : Step S). e.to) (steps_from m 0 names)
-            (record { from = 0 + n; label = label; to = next }) (steps-there m 0 names n s label next at there)))
+        (record { from = 0 + n; label = label; to = next }) (steps-there m 0 names n s label next at there)))
 
     pub reached_named : (s : S) → Reached m s → Among names s
     reached_named s at_start = names-among eq decides own m limit (steps_from m 0 names) names edges seen m.start
@@ -140,7 +143,7 @@ module _ {S : Type 0} (eq : S → S → Bool) (decides : (x y : S) → Decides (
     pub few_reached : ReachesMoreThan m limit → ⊥
     few_reached (states, different, reached, more) =
         let short = no_longer states names (Apart-from_AllPairs states different)
-            (λ s h. reached_named s (All-among (Reached m) states s reached h)) in
+        (λ s h. reached_named s (All-among (Reached m) states s reached h)) in
         omega (arith, more, seen.few)
 
     pub filed_all : (rows : List Row) → AreFiled m names edges rows → length rows ≡ length names → limit < 2 ^ 32 →
@@ -153,10 +156,10 @@ module _ {S : Type 0} (eq : S → S → Bool) (decides : (x y : S) → Decides (
       rows_there = filed.rows_there;
       between = All-from_among (λ e. e.from < length rows × e.to < length rows) edges (λ e h.
           let (step, k, same) = map-Among (numbered eq names) (steps_from m 0 names) e
-              (once-Among same_edge same_edge-Decides (map (numbered eq names) (steps_from m 0 names)) e
-              (subst (λ (s : List Edge). Among s e) seen.joined h)) in
+          (once-Among same_edge same_edge-Decides (map (numbered eq names) (steps_from m 0 names)) e
+          (subst (λ (s : List Edge). Among s e) seen.joined h)) in
           let there : Among names step.to = names-among eq decides own m limit (steps_from m 0 names) names edges
-              seen step.to (inr (Among-map (λ (e : Step S). e.to) (steps_from m 0 names) step k)) in
+          seen step.to (inr (Among-map (λ (e : Step S). e.to) (steps_from m 0 names) step k)) in
           let below = (position-Among eq decides names step.to there).0 in
           let to : position_or_len (eq step.to) names ≡ e.to = ap (λ (x : Edge). x.to) same in
           (All-among (λ e. e.from < length rows) edges e filed.below h, omega (arith, all)));

@@ -52,7 +52,7 @@ module _ (edges : List Edge) (n : ℕ) (row : Row) (has : HasEdgesOf edges n row
       ∙ ap (λ (s : List Edge). length s) (sym has.there)
       ∙ length-take (row.end - row.first) (drop row.first edges)
       ∙ (let d : length (drop row.first edges) ≡ length edges - row.first = length-drop row.first edges in
-          omega (arith, has.in_order, has.within))
+      omega (arith, has.in_order, has.within))
 
   pub edge_in_row : (place : ℕ) → place < row.end - row.first → slice_get (filter (λ e. eqb e.from n) edges) place ≡
       slice_get edges (row.first + place)
@@ -65,7 +65,7 @@ module _ (edges : List Edge) (n : ℕ) (row : Row) (has : HasEdgesOf edges n row
 pub row_facts : (rows : List Row) (edges : List Edge) (g : Graph) (view : view_of rows edges ≡ g)
     (filed : IsFiled rows edges) (n : ℕ) (row : Row)
     → n < length g.accepting → row ≡ get_or rows n row → HasEdgesOf g.edges n row ×
-        (row.accepts ≡ get_or g.accepting n false)
+    (row.accepts ≡ get_or g.accepting n false)
 row_facts rows edges g view filed n row lt is =
     let states : length g.accepting ≡ length rows = states-view rows edges g view in
     let below : n < length rows = omega arith in (
@@ -83,22 +83,24 @@ between-view rows edges g view filed shown same =
     let states : length g.accepting ≡ length rows = states-view rows edges g view in
     All-same (λ (e : Edge). e.from < length g.accepting × e.to < length g.accepting) shown edges same
     (All-weaker (λ (e : Edge). e.from < length rows × e.to < length rows)
-        (λ (e : Edge). e.from < length g.accepting × e.to < length g.accepting)
+    (λ (e : Edge). e.from < length g.accepting × e.to < length g.accepting)
     (λ e h. (omega (arith, h.0), omega (arith, h.1))) edges filed.between)
 
 -- the edge that `Table::edge` finds
 pub edge_facts : (g : Graph) (n place : ℕ) (row : Row) (edges : List Edge) (edge : Edge) →
     HasEdgesOf g.edges n row → edges ≡ g.edges → place < length (edges_from n g.edges)
     → (row.first + place < length edges) ×
-        (edge ≡ get_or edges (row.first + place) edge → slice_get (filter (λ e. eqb e.from n) g.edges) place ≡ Some
-        edge)
+    (edge ≡ get_or edges (row.first + place) edge → slice_get (filter (λ e. eqb e.from n) g.edges) place ≡ Some
+    edge)
 edge_facts g n place row edges edge has same there =
     let count : length (edges_from n g.edges) ≡ row.end - row.first = length-row g.edges n row has in
     let long : length edges ≡ length g.edges = ap (λ (s : List Edge). length s) same in
-    let inside : row.first + place < length edges = omega (arith, has.in_order, has.within) in
-    (inside, λ is. edge_in_row g.edges n row has place (omega arith)
-        ∙ ap (λ (s : List Edge). slice_get s (row.first + place)) (sym same) ∙ slice_get_read edges (length edges)
-        (row.first + place) edge refl inside is)
+    let inside : row.first + place < length edges = omega (arith, has.in_order, has.within) in (
+      inside,
+      λ is. edge_in_row g.edges n row has place (omega arith)
+          ∙ ap (λ (s : List Edge). slice_get s (row.first + place)) (sym same) ∙ slice_get_read edges (length edges)
+          (row.first + place) edge refl inside is,
+    )
 
 -- that edge in the machine of the table
 pub edge_of_machine : (edges : List Edge) (n place : ℕ) (edge : Edge) →

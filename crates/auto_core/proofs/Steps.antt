@@ -93,7 +93,7 @@ module _ {S : Type 0} (eq : S → S → Bool) (decides : (x y : S) → Decides (
             let same : position_or_len (eq step.to) (insert_key eq names next) ≡ position_or_len (eq step.to) names =
             ap (position_or_len (eq step.to)) (insert_key-new eq decides names next out)
             ∙ position-more eq decides names (next ∷ []) step.to
-                (names-among steps names edges seen step.to (inr (Among-map (λ (e : Step S). e.to) steps step k))) in
+            (names-among steps names edges seen step.to (inr (Among-map (λ (e : Step S). e.to) steps step k))) in
             ap (λ (n : ℕ). record { from = step.from; label = step.label; to = n }) same)
       ]
 
@@ -101,9 +101,9 @@ module _ {S : Type 0} (eq : S → S → Bool) (decides : (x y : S) → Decides (
   pub step_taken : (steps : List (Step S)) (names : List S) (edges : List Edge) (state : S) (from place : ℕ)
       (names' : List S) (edges' : List Edge)
       → IsExplored eq own m limit steps names edges → Reached m state →
-          (taken : TakesEdge eq own m limit state from place names edges names' edges')
+      (taken : TakesEdge eq own m limit state from place names edges names' edges')
       → IsExplored eq own m limit (steps ++ (record { from = from; label = taken.label; to = taken.next }) ∷ [])
-          names' edges'
+      names' edges'
   step_taken steps names edges state from place names' edges' seen reached taken =
       let step : Step S = record { from = from; label = taken.label; to = taken.next } in
       record {
@@ -111,7 +111,7 @@ module _ {S : Type 0} (eq : S → S → Bool) (decides : (x y : S) → Decides (
             taken.named ∙ ap (λ (s : List S). insert_key eq s taken.next) seen.named
             ∙ sym (once_each-push eq decides (m.start ∷ map (λ e. e.to) steps) taken.next)
             ∙ ap (λ (s : List S). once_each eq (m.start ∷ s))
-                (sym (map-append (λ (e : Step S). e.to) steps (step ∷ [])));
+            (sym (map-append (λ (e : Step S). e.to) steps (step ∷ [])));
         owned = inserted own taken.owned seen.owned;
         reached = inserted (Reached m)
             (by_edge taken.label taken.next reached
@@ -122,26 +122,26 @@ module _ {S : Type 0} (eq : S → S → Bool) (decides : (x y : S) → Decides (
               (taken.named ∙ insert_key-there eq decides names taken.next h) in omega (arith, seen.few)
           | inr out ↦
               let e : length names' ≡ length (names ++ taken.next ∷ []) = ap (λ (s : List S). length s)
-                  (taken.named ∙ insert_key-new eq decides names taken.next out) in
+              (taken.named ∙ insert_key-new eq decides names taken.next out) in
               let l : length (names ++ taken.next ∷ []) ≡ length names + 1 = length-append names (taken.next ∷ []) in
               let p : position_or_len (eq taken.next) names ≡ length names = position-absent eq decides names
-                  taken.next out in
+              taken.next out in
               omega (arith, taken.room)
         ];
         joined =
             taken.added ∙ ap (λ (s : List Edge). insert_key same_edge s
-                (record { from = from; label = taken.label; to = position_or_len (eq taken.next) names })) seen.joined
+            (record { from = from; label = taken.label; to = position_or_len (eq taken.next) names })) seen.joined
             ∙ sym (once_each-push same_edge same_edge-Decides (map (numbered eq names) steps)
-                (record { from = from; label = taken.label; to = position_or_len (eq taken.next) names }))
+            (record { from = from; label = taken.label; to = position_or_len (eq taken.next) names }))
             ∙ ap (once_each same_edge)
             (ap (λ (s : List Edge). s ++
-                (record { from = from; label = taken.label; to = position_or_len (eq taken.next) names }) ∷ [])
+            (record { from = from; label = taken.label; to = position_or_len (eq taken.next) names }) ∷ [])
             (sym (numbers-stay steps names edges taken.next seen) ∙ ap (λ (s : List S). map (numbered eq s) steps)
-                (sym taken.named))
+            (sym taken.named))
             ∙ ap (λ (n : ℕ). map (numbered eq names') steps ++ (record { from = from; label = taken.label; to = n })
-                ∷ [])
+            ∷ [])
             (sym (position-inserted eq decides names taken.next) ∙ ap (position_or_len (eq taken.next))
-                (sym taken.named))
+            (sym taken.named))
             ∙ sym (map-append (numbered eq names') steps (step ∷ [])));
       }
     where
@@ -155,7 +155,7 @@ module _ {S : Type 0} (eq : S → S → Bool) (decides : (x y : S) → Decides (
   -- a state for which there is no number is one too many
   pub too_many_after : (steps : List (Step S)) (names : List S) (edges : List Edge) (state : S) (place : ℕ)
       → IsExplored eq own m limit steps names edges → Reached m state → FindsTooMany eq m limit state place names →
-          ReachesMoreThan m limit
+      ReachesMoreThan m limit
   too_many_after steps names edges state place seen reached found =
       elim (among_or_not eq decides names found.next) [
         | inl h ↦ let p = (position-Among eq decides names found.next h).0 in
@@ -163,7 +163,7 @@ module _ {S : Type 0} (eq : S → S → Bool) (decides : (x y : S) → Decides (
         | inr out ↦
             let l : length (names ++ found.next ∷ []) ≡ length names + 1 = length-append names (found.next ∷ []) in
             let p : position_or_len (eq found.next) names ≡ length names = position-absent eq decides names
-                found.next out in (
+            found.next out in (
               names ++ found.next ∷ [],
               AllPairs-from_Apart (names ++ found.next ∷ [])
                   (Apart-push names found.next (names-apart steps names edges seen) out),

@@ -51,7 +51,7 @@ swapped_below a b ab (m ∷ ms) =
                 ap (λ s. put_literal a s) (put_literal-after b m ms mb) ∙ put_literal-after a m (put_literal b ms) ma
                 ∙ ap (λ s. m ∷ s) (swapped_below a b ab ms)
                 ∙ sym (ap (λ s. put_literal b s) (put_literal-after a m ms ma)
-                    ∙ put_literal-after b m (put_literal a ms) mb)
+                ∙ put_literal-after b m (put_literal a ms) mb)
             | inr same ↦
                 ap (λ s. put_literal a s) (put_literal-after b m ms mb) ∙ put_literal-there a m (put_literal b ms) same
                 ∙ sym (ap (λ s. put_literal b s) (put_literal-there a m ms same) ∙ put_literal-after b m ms mb)

@@ -18,8 +18,8 @@ edge_to edges i l t h =
     let r = map-Among (λ (e : Edge). (e.label, e.to)) (filter (λ e. eqb e.from i) edges) (l, t) h in
     let s = Among-filter (λ (e : Edge). eqb e.from i) edges r.0 r.1 in
     let same : ◌≡◌ {A = Edge} r.0 (record { from = i; label = l; to = t }) =
-        ap (λ (k : ℕ). record { from = k; label = r.0.label; to = r.0.to }) ((Decides-eqb r.0.from i).0 s.1)
-        ∙ ap (λ (x : List Literal × ℕ). record { from = i; label = x.0; to = x.1 }) r.2 in
+    ap (λ (k : ℕ). record { from = k; label = r.0.label; to = r.0.to }) ((Decides-eqb r.0.from i).0 s.1)
+    ∙ ap (λ (x : List Literal × ℕ). record { from = i; label = x.0; to = x.1 }) r.2 in
     subst (Among edges) same s.0
 
 pub edge_from : (edges : List Edge) (i : ℕ) (l : List Literal) (t : ℕ) →

@@ -135,8 +135,8 @@ fn spread(
 
 /// The states from which an accepting state is reached over any labels, in no step or more.
 ///
-/// A label that no truth values pass counts too, since a top passes each label. Time and memory grow with the number of
-/// states and edges.
+/// A label that no truth values pass counts too, since a top passes each label. Time and memory grow with the number
+/// of states and edges.
 pub fn alive(alloc: Global, table: &Table) -> Result<Marks, AllocError>
     ensures { IfOk result (AreMarks table.now) }
 {

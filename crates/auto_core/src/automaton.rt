@@ -49,8 +49,7 @@ pub trait Auto {
         ensures owned { own self.now result };
 
     /// Puts the literals of the edge at this place into `onto`. After want of memory some of them may be there,
-    /// beside all
-    /// that were.
+    /// beside all that were.
     fn label(&self, state: Self::State, place: usize, onto: &mut Label) -> Result<(), AllocError>
         requires fit { fits self.now }
         requires owned { own self.now state }
@@ -60,8 +59,6 @@ pub trait Auto {
         ensures kept { (l : Literal) → Contains onto.old l → Contains onto.new l };
 
     /// How many edges lead from the state to one that accepts.
-    ///
-    /// The time grows with the number of the state's edges; a table knows its answer.
     fn last_count(&self, state: Self::State) -> usize
         requires fit { fits self.now }
         requires owned { own self.now state }
@@ -78,8 +75,6 @@ pub trait Auto {
     }
 
     /// The place among the state's edges of the one with this rank among those that lead to a state that accepts.
-    ///
-    /// The time grows with the number of the state's edges; a table knows its answer.
     fn last_place(&self, state: Self::State, rank: usize) -> usize
         requires fit { fits self.now }
         requires owned { own self.now state }

@@ -210,8 +210,7 @@ fn explore_all<A: Auto>(
 }
 
 /// The automaton's states that are reached from its start, numbered as first seen, and the edges between them, equal
-/// ones
-/// once.
+/// ones once.
 ///
 /// Time and memory grow with the number of these states and edges.
 pub fn materialise<A: Auto>(alloc: Global, automaton: &A, limit: u32) -> Result<Table, TableError>

@@ -109,8 +109,7 @@ impl Label {
     }
 
     /// Puts all the literals of another label into the set. After want of memory some of them may be there, beside
-    /// all that
-    /// were.
+    /// all that were.
     pub fn put_all(&mut self, other: &Label) -> Result<(), AllocError>
         ensures ok { OnOk result (self.new ≡ put_all other.now self.old) }
         ensures passes { OnOk result ((a : Letter) → Passes self.new a ↔ (Passes other.now a × Passes self.old a)) }

@@ -8,8 +8,7 @@ ghost use Rattle.auto_core.specs.LiteralSets.{IsLabel, put_all};
 ghost use Rattle.auto_core.specs.Machine.{Machine, Letter, Passes, AcceptsFrom, Accepts};
 
 /// A set of literals that is put into another gives their union: it has the literals of both, a letter passes it
-/// exactly
-/// if it passes both, and a union is put in as its one part after the other.
+/// exactly if it passes both, and a union is put in as its one part after the other.
 pub fn a_union_has_the_literals_of_both()
     ensures members { (ls ms : List Literal) (l : Literal) →
         Contains (put_all ls ms) l ↔ (Contains ls l ⊎ Contains ms l) }

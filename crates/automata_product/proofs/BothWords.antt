@@ -1,5 +1,5 @@
 -- The machine of both accepts what both machines accept.
-use Rattle.std.proofs.Common.{◌&&◌, ◌↔◌, List, [], ◌∷◌, refl, sym, ap, subst}
+use Rattle.std.proofs.Common.{◌↔◌, List, [], ◌∷◌, refl, sym, ap, subst}
 use Rattle.std.proofs.lemmas.Bool.{and_parts, and_from}
 use Rattle.auto_core.specs.declared.labels.Literal.{Literal}
 use Rattle.auto_core.specs.Edges.{HasJoined}

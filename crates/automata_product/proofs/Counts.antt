@@ -1,6 +1,5 @@
 -- How many edges a state of a product or of a fusion has at most.
-use Rattle.std.proofs.Common.{◌≡◌, ℕ, ◌+◌, ◌*◌, ◌<◌, ◌≤◌, ◌^◌, List, ◌++◌, map, length, arith, length-append}
-use Rattle.std.specs.Prelude.{filter}
+use Rattle.std.proofs.Common.{◌≡◌, ℕ, ◌+◌, ◌*◌, ◌<◌, ◌≤◌, ◌^◌, map, length, arith, length-append}
 use Rattle.std.proofs.lemmas.List.{length-map}
 use Rattle.std.proofs.lemmas.List.Sums.{length-filter, count_by-le-length}
 use Rattle.std.proofs.lemmas.Nat.{mul-le}
@@ -28,8 +27,12 @@ module _ {S T : Type 0} (m : Machine S) (n : Machine T) where
       ≤ length (m.edges p) + length (m.edges p) * length (n.edges n.start)
   fuse_left p =
       let lasts : length (last_edges m p) ≤ length (m.edges p) =
-          omega (arith, length-filter (λ x. m.accepts x.1) (m.edges p), count_by-le-length (λ x. m.accepts x.1)
-              (m.edges p)) in
+      omega (
+        arith,
+        length-filter (λ x. m.accepts x.1) (m.edges p),
+        count_by-le-length (λ x. m.accepts x.1)
+            (m.edges p),
+      ) in
       let firsts : length (n.edges n.start) ≤ length (n.edges n.start) = omega arith in
       omega (
         arith,

@@ -36,7 +36,7 @@ module _ {S T : Type 0} (m : Machine S) (n : Machine T) (p : S) where
       PutsEdge (m.edges p) last old mid → PutsEdge (n.edges s) (k % c) mid new → PutsEdge (joint_edges m n p) k old new
   joint_puts ordered union s c k last old mid new e h some same first second =
       puts-split (λ last q. Right q) (last_edges m p) (n.edges n.start) ordered union k c old mid new
-          (at_start s c e h) some
+      (at_start s c e h) some
       (at-same (Puts old mid) (m.edges p) (last_edges m p) last (k / c) same first)
       (subst (λ t. PutsEdge (n.edges t) (k % c) mid new) e second)
 
@@ -44,11 +44,17 @@ module _ {S T : Type 0} (m : Machine S) (n : Machine T) (p : S) where
       c ≡ length (n.edges s) → a + b * c ≡ length (fuse_edges m n (Left p))
   fuse_count s a b c own lasts e h =
       let joint : b * c ≡ length (joint_edges m n p) = count_products (λ last q. Right q) (last_edges m p)
-          (n.edges n.start) b c lasts (at_start s c e h) in
+      (n.edges n.start) b c lasts (at_start s c e h) in
       let front : length (map (renamed {U = Side S T} Left) (m.edges p)) ≡ length (m.edges p) =
-          length-map (m.edges p) (renamed Left) in
-      omega (arith, joint, own, front, length-append (map (renamed {U = Side S T} Left) (m.edges p))
-          (joint_edges m n p))
+      length-map (m.edges p) (renamed Left) in
+      omega (
+        arith,
+        joint,
+        own,
+        front,
+        length-append (map (renamed {U = Side S T} Left) (m.edges p))
+            (joint_edges m n p),
+      )
 
   pub left_at : (P : List Literal → Type 0) (k : ℕ) → HasLabelAt (m.edges p) k P →
       HasLabelAt (fuse_edges m n (Left p)) k P

@@ -21,8 +21,8 @@ module _ {S T : Type 0} (m : Machine S) (n : Machine T)
   fuse_from [] p a v h k =
       let last = (tested (m.edges p) (h.0, h.1)).1 (h.2, h.4) in
       let edge =
-          (joined (last_edges m p) (n.edges n.start) (put_all k.0 h.0, Right k.1)).1
-          ((h.0, h.1), (k.0, k.1), last, k.2, refl) in (
+      (joined (last_edges m p) (n.edges n.start) (put_all k.0 h.0, Right k.1)).1
+      ((h.0, h.1), (k.0, k.1), last, k.2, refl) in (
         put_all k.0 h.0,
         Right k.1,
         Contains-append_right (map (renamed Left) (m.edges p)) _ _ edge,

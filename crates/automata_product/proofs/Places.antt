@@ -41,10 +41,10 @@ get-products f [] ys i j k x y e h l = absurd (cc)
 get-products f (z ∷ zs) ys zero j k x y e h l =
     let same : z ≡ x = cc in
     let here : slice_get (map (λ y. joined_edge f z y) ys) j ≡ Some (joined_edge f z y) =
-        get-map (λ y. joined_edge f z y) ys j y l in
+    get-map (λ y. joined_edge f z y) ys j y l in
     let place : j ≡ k = omega arith in
     let there : slice_get (map (λ y. joined_edge f z y) ys) j ≡ Some (joined_edge f x y) = here
-        ∙ ap (λ w. Some (joined_edge f w y)) same in
+    ∙ ap (λ w. Some (joined_edge f w y)) same in
     get-append_left (map (λ y. joined_edge f z y) ys) (products f zs ys) k (joined_edge f x y)
     (subst (λ n. slice_get (map (λ y. joined_edge f z y) ys) n ≡ Some (joined_edge f x y)) place there)
 get-products f (z ∷ zs) ys (suc i) j k x y e h l =

@@ -1,5 +1,5 @@
 -- The edge at a place of a list that is made of others: where it leads, and what its label is.
-use Rattle.std.proofs.Common.{◌≡◌, ◌↔◌, ℕ, zero, suc, [], ◌∷◌, arith, ◌+◌, ◌-◌, ◌*◌, ◌/◌, ◌%◌, ◌<◌, ◌≤◌, Some, List}
+use Rattle.std.proofs.Common.{◌≡◌, ◌↔◌, ℕ, zero, suc, [], ◌∷◌, arith, ◌+◌, ◌-◌, ◌*◌, ◌/◌, ◌%◌, ◌<◌, ◌≤◌, List}
 use Rattle.std.proofs.Common.{◌++◌}
 use Rattle.std.proofs.Common.{map, length, slice_get, refl, sym, ap, ◌∙◌, subst, length-append}
 use Rattle.std.specs.Option.{option_map}
@@ -115,10 +115,10 @@ module _ {S T U : Type 0} (f : S → T → U) (xs : List (List Literal × S)) (y
 pub passes-puts : {S : Type 0} →
     ((ls ms : List Literal) (a : Letter) → Passes (put_all ls ms) a ↔ (Passes ls a × Passes ms a)) →
     (edges : List (List Literal × S)) (k : ℕ) (old new : List Literal) → PutsEdge edges k old new →
-        PassesEdge edges k old new
+    PassesEdge edges k old new
 passes-puts both edges k old new h =
     let passing : Passing old new h.0 =
-        λ a. subst (λ s. Passes s a ↔ (Passes h.0 a × Passes old a)) (sym h.3.1) (both h.0 old a) in
+    λ a. subst (λ s. Passes s a ↔ (Passes h.0 a × Passes old a)) (sym h.3.1) (both h.0 old a) in
     (h.0, h.1, h.2, passing)
 
 -- the target of a joined edge by its column, where it is the second edge's alone

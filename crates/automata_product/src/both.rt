@@ -24,7 +24,7 @@ impl<A: Auto, B: Auto> Both<A, B> {
         ensures made { result ≡ record { left = left; right = right } }
         ensures words { (w : List Letter) →
             Accepts (⟦<Both<A, B> as Auto>⟧.machine result) w
-                ↔ (Accepts (A.machine left) w × Accepts (B.machine right) w) }
+            ↔ (Accepts (A.machine left) w × Accepts (B.machine right) w) }
         ensures few { (i j : ℕ) →
             HasAtMost (A.own left) (A.machine left) i → HasAtMost (B.own right) (B.machine right) j →
             HasAtMost (⟦<Both<A, B> as Auto>⟧.own result) (⟦<Both<A, B> as Auto>⟧.machine result) (i * j) }

@@ -56,8 +56,8 @@ impl<A: Auto, B: Auto> Fuse<A, B> {
         requires fit { ⟦<Fuse<A, B> as Auto>⟧.fits self.now }
         requires owned { A.own self.now.left state }
         requires there { place < length (fuse_edges (A.machine self.now.left) (B.machine self.now.right) (Left state)) }
-        ensures edge {
-            LeadsTo (fuse_edges (A.machine self.now.left) (B.machine self.now.right) (Left state)) place result }
+        ensures edge { LeadsTo (fuse_edges (A.machine self.now.left) (B.machine self.now.right) (Left state))
+            place result }
         ensures owned { OfSides (A.own self.now.left) (B.own self.now.right) result }
     {
         let count = self.left.edge_count(state);
@@ -73,8 +73,8 @@ impl<A: Auto, B: Auto> Fuse<A, B> {
         requires fit { ⟦<Fuse<A, B> as Auto>⟧.fits self.now }
         requires owned { A.own self.now.left state }
         requires there { place < length (joint_edges (A.machine self.now.left) (B.machine self.now.right) state) }
-        ensures edge {
-            LeadsTo (joint_edges (A.machine self.now.left) (B.machine self.now.right) state) place (Right result) }
+        ensures edge { LeadsTo (joint_edges (A.machine self.now.left) (B.machine self.now.right) state)
+            place (Right result) }
         ensures owned { B.own self.now.right result }
     {
         let start = self.right.start();
@@ -89,10 +89,10 @@ impl<A: Auto, B: Auto> Fuse<A, B> {
         requires there { place < length (fuse_edges (A.machine self.now.left) (B.machine self.now.right) (Left state)) }
         ensures edge { OnOk result
             (PutsEdge (fuse_edges (A.machine self.now.left) (B.machine self.now.right) (Left state)) place onto.old
-                onto.new) }
+            onto.new) }
         ensures passes { OnOk result
             (PassesEdge (fuse_edges (A.machine self.now.left) (B.machine self.now.right) (Left state)) place
-                onto.old onto.new) }
+            onto.old onto.new) }
         ensures kept { (l : Literal) → Contains onto.old l → Contains onto.new l }
     {
         let count = self.left.edge_count(state);
@@ -110,10 +110,10 @@ impl<A: Auto, B: Auto> Fuse<A, B> {
         requires there { place < length (joint_edges (A.machine self.now.left) (B.machine self.now.right) state) }
         ensures edge { OnOk result
             (PutsEdge (joint_edges (A.machine self.now.left) (B.machine self.now.right) state) place onto.old
-                onto.new) }
+            onto.new) }
         ensures passes { OnOk result
             (PassesEdge (joint_edges (A.machine self.now.left) (B.machine self.now.right) state) place onto.old
-                onto.new) }
+            onto.new) }
         ensures kept { (l : Literal) → Contains onto.old l → Contains onto.new l }
     {
         a_union_has_the_literals_of_both();
@@ -173,6 +173,9 @@ impl<A: Auto, B: Auto> Auto for Fuse<A, B> {
     }
 
     ghost same = { same_side A.same B.same (record {
-        left = λ p q. refl; right = λ p q. refl; left_right = λ p q. refl; right_left = λ p q. refl;
+      left = λ p q. refl;
+      right = λ p q. refl;
+      left_right = λ p q. refl;
+      right_left = λ p q. refl;
     }) };
 }

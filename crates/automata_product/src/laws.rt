@@ -21,8 +21,9 @@ pub fn the_product_accepts_what_both_accept<S, T>()
     laws::joined_lists_have_the_joined_edges::<S, T, (S, T)>();
 }
 
-/// The fusion accepts the lists of two parts that overlap in one letter, the first of the one machine and the second of
-/// the other. A state of the first keeps its edges, and each of them may be joined with each first edge of the other.
+/// The fusion accepts the lists of two parts that overlap in one letter, the first of the one machine and the second
+/// of the other. A state of the first keeps its edges, and each of them may be joined with each first edge of the
+/// other.
 pub fn the_fusion_accepts_the_overlaps_in_one_letter<S, T>()
     ensures words { (m : Machine S) (n : Machine T) (w : List Letter) →
         Accepts (fuse_machine m n) w ↔ IsFusion (Accepts m) (Accepts n) w }

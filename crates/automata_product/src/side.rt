@@ -40,8 +40,8 @@ pub fn either_target<A: Auto, B: Auto>(
     }
 }
 
-/// Puts the literals of the edge at this place into `onto`, among the edges of a state of one automaton and after them
-/// those of a state of another. After want of memory some of them may be there, beside all that were.
+/// Puts the literals of the edge at this place into `onto`, among the edges of a state of one automaton and after
+/// them those of a state of another. After want of memory some of them may be there, beside all that were.
 pub fn either_label<A: Auto, B: Auto>(
     left: &A,
     p: A::State,

@@ -42,7 +42,7 @@ module _ {S T : Type 0} (m : Machine S) (n : Machine T)
   to_concat [] p h = let both = and_parts (m.accepts p) (n.accepts n.start) h in ([], [], refl, both.0, both.1)
   to_concat (a ∷ w) p (label, next, there, passes, rest) =
       elim (Contains-append_cases (map (renamed Left) (m.edges p))
-          (cond (m.accepts p) (map (renamed Right) (n.edges n.start)) []) (label, next) there) [
+      (cond (m.accepts p) (map (renamed Right) (n.edges n.start)) []) (label, next) there) [
         | inl k ↦
             let r = (lefts (m.edges p) label next).0 k in
             let more = to_concat w r.0 (subst (λ t. AcceptsFrom (concat_machine m n) t w) (sym r.2) rest) in

@@ -1,6 +1,5 @@
 -- The edges of each machine's states as the edges of a state of one part and after them those of another.
-use Rattle.std.proofs.Common.{◌≡◌, Bool, true, false, List, ◌++◌, map, sym, ap, ◌∙◌}
-use Rattle.auto_core.specs.declared.labels.Literal.{Literal}
+use Rattle.std.proofs.Common.{◌≡◌, Bool, true, false, map, sym, ap, ◌∙◌}
 use Rattle.auto_core.specs.Edges.{renamed}
 use Rattle.auto_core.specs.Machine.{Machine}
 use Rattle.automata_product.specs.declared.side.Side.{Side}
@@ -29,13 +28,13 @@ module _ {S T : Type 0} (m : Machine S) (n : Machine T) where
   concat_then p q b same holds e =
       ap (λ (r : T). either_edges m n p r) e
       ∙ sym (followed (m.accepts p) (map (renamed side.Left) (m.edges p)) (map (renamed side.Right) (n.edges n.start))
-          (sym same ∙ holds))
+      (sym same ∙ holds))
 
   pub concat_alone : (p : S) (b : Bool) → b ≡ m.accepts p → b ≡ false →
       map (renamed side.Left) (m.edges p) ≡ concat_edges m n (side.Left p)
   concat_alone p b same fails =
       sym (alone (m.accepts p) (map (renamed side.Left) (m.edges p)) (map (renamed side.Right) (n.edges n.start))
-          (sym same ∙ fails))
+      (sym same ∙ fails))
 
   pub one_of_first : (p : S) (q : T) → p ≡ m.start → q ≡ n.start →
       map (renamed choice_of) (either_edges m n p q) ≡ one_of_edges m n choice.New
@@ -51,11 +50,11 @@ module _ {S : Type 0} (m : Machine S) where
       ap (λ (r : S). map (renamed round_of) (either_edges m m p r)) e
       ∙ either_renamed round_of (m.edges p) (m.edges m.start)
       ∙ sym (followed (m.accepts p) (map (renamed round.Inner) (m.edges p))
-          (map (renamed round.Inner) (m.edges m.start))
-          (sym same ∙ holds))
+      (map (renamed round.Inner) (m.edges m.start))
+      (sym same ∙ holds))
 
   pub repeat_alone : (p : S) (b : Bool) → b ≡ m.accepts p → b ≡ false →
       map (renamed round.Inner) (m.edges p) ≡ repeat_edges m (round.Inner p)
   repeat_alone p b same fails =
       sym (alone (m.accepts p) (map (renamed round.Inner) (m.edges p)) (map (renamed round.Inner) (m.edges m.start))
-          (sym same ∙ fails))
+      (sym same ∙ fails))

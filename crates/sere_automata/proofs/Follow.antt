@@ -1,12 +1,11 @@
 -- The edges of a state, and on a condition after them the first edges of what follows.
-use Rattle.std.proofs.Common.{◌≡◌, ℕ, ◌<◌, Bool, true, false, cond, IsTrue, List, [], ◌∷◌, ◌++◌, map, slice_get}
+use Rattle.std.proofs.Common.{◌≡◌, ℕ, Bool, true, false, cond, IsTrue, List, [], ◌∷◌, ◌++◌, map}
 use Rattle.std.proofs.Common.{Contains}
-use Rattle.std.proofs.Common.{length, refl, ap, ◌∙◌, arith}
+use Rattle.std.proofs.Common.{refl, ap, ◌∙◌, arith}
 use Rattle.std.specs.Option.{option_map}
 use Rattle.std.proofs.lemmas.Option.{slice_get-map}
 use Rattle.auto_core.specs.declared.labels.Literal.{Literal}
-use Rattle.auto_core.specs.Edges.{renamed, LeadsTo, HasLabelAt, PutsEdge, PassesEdge}
-use Rattle.auto_core.specs.LiteralSets.{IsLabel, put_all}
+use Rattle.auto_core.specs.Edges.{renamed, LeadsTo, PutsEdge, PassesEdge}
 use Rattle.automata_product.specs.declared.side.Side.{Side}
 use Rattle.automata_product.specs.declared.side.Side.TheVariants.{Left, Right}
 

@@ -25,5 +25,5 @@ module _ (label : List Literal) where
 
   pub leaf_passes : (state : LeafState) (place : ℕ) (old new : List Literal) → place < length (leaf_edges label state) →
       ((a : Letter) → Passes new a ↔ (Passes label a × Passes old a)) →
-          PassesEdge (leaf_edges label state) place old new
+      PassesEdge (leaf_edges label state) place old new
   leaf_passes state place old new h passing = (label, End, leaf_at state place h, passing)

@@ -29,7 +29,7 @@ module _ {S T : Type 0} (m : Machine S) (n : Machine T)
   to_one_of [] h = or_cases (m.accepts m.start) (n.accepts n.start) h
   to_one_of (a ∷ w) (label, next, there, passes, rest) =
       elim (Contains-append_cases (map (renamed Left) (m.edges m.start)) (map (renamed Right) (n.edges n.start))
-          (label, next) there) [
+      (label, next) there) [
         | inl k ↦
             let r = (lefts (m.edges m.start) label next).0 k in
             let after = subst (λ t. AcceptsFrom (one_of_machine m n) t w) (sym r.2) rest in

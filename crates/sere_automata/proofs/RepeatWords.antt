@@ -70,7 +70,7 @@ module _ {S : Type 0} (m : Machine S) (inners : HasRenamed {S = S} {U = Round S}
   to_inner [] p h = ([], [], refl, h, ([], tt, refl))
   to_inner (a ∷ w) p (label, next, there, passes, rest) =
       elim (Contains-append_cases (map (renamed Inner) (m.edges p))
-          (cond (m.accepts p) (map (renamed Inner) (m.edges m.start)) []) (label, next) there) [
+      (cond (m.accepts p) (map (renamed Inner) (m.edges m.start)) []) (label, next) there) [
         | inl k ↦
             let r = (inners (m.edges p) label next).0 k in
             let after = to_inner w r.0 (subst (λ t. AcceptsFrom (repeat_machine m) t w) (sym r.2) rest) in

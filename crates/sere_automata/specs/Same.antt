@@ -1,5 +1,5 @@
 -- That a comparison of states answers true only at the same one, from the same of the parts' states.
-use Rattle.std.specs.Prelude.{◌≡◌, Bool, true, false, refl}
+use Rattle.std.specs.Prelude.{◌≡◌, Bool, false, refl}
 use Rattle.std.proofs.Common.{◌∙◌, sym, ap}
 use Rattle.std.proofs.lemmas.Bool.{false≢true}
 use Rattle.automata_product.specs.Same.{IsExact}

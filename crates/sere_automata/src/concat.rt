@@ -60,8 +60,8 @@ impl<A: Auto, B: Auto> Concat<A, B> {
         requires owned { A.own self.now.left state }
         requires there { place < length
             (concat_edges (A.machine self.now.left) (B.machine self.now.right) (Left state)) }
-        ensures edge {
-            LeadsTo (concat_edges (A.machine self.now.left) (B.machine self.now.right) (Left state)) place result }
+        ensures edge { LeadsTo (concat_edges (A.machine self.now.left) (B.machine self.now.right) (Left state))
+            place result }
         ensures owned { OfSides (A.own self.now.left) (B.own self.now.right) result }
     {
         if self.left.accepts(state) {
@@ -80,10 +80,10 @@ impl<A: Auto, B: Auto> Concat<A, B> {
             (concat_edges (A.machine self.now.left) (B.machine self.now.right) (Left state)) }
         ensures edge { OnOk result
             (PutsEdge (concat_edges (A.machine self.now.left) (B.machine self.now.right) (Left state)) place
-                onto.old onto.new) }
+            onto.old onto.new) }
         ensures passes { OnOk result
             (PassesEdge (concat_edges (A.machine self.now.left) (B.machine self.now.right) (Left state)) place
-                onto.old onto.new) }
+            onto.old onto.new) }
         ensures kept { (l : Literal) → Contains onto.old l → Contains onto.new l }
     {
         if self.left.accepts(state) {
@@ -143,6 +143,9 @@ impl<A: Auto, B: Auto> Auto for Concat<A, B> {
     }
 
     ghost same = { same_side A.same B.same (record {
-        left = λ p q. refl; right = λ p q. refl; left_right = λ p q. refl; right_left = λ p q. refl;
+      left = λ p q. refl;
+      right = λ p q. refl;
+      left_right = λ p q. refl;
+      right_left = λ p q. refl;
     }) };
 }

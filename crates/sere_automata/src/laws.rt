@@ -31,8 +31,7 @@ pub fn one_step_accepts_one_letter_that_passes()
 {}
 
 /// One machine after another: their lists one after the other. A state of the first has its edges, and the first
-/// edges of
-/// the other if it accepts.
+/// edges of the other if it accepts.
 pub fn the_concatenation_accepts_one_list_after_the_other<S, T>()
     ensures words { (m : Machine S) (n : Machine T) (w : List Letter) →
         Accepts (concat_machine m n) w ↔ IsConcatenation (Accepts m) (Accepts n) w }
@@ -63,15 +62,15 @@ pub fn the_choice_accepts_what_either_accepts<S, T>()
     laws::a_copy_of_a_machine_accepts_the_same::<T, Choice<S, T>>();
 }
 
-/// A machine any number of times: the lists that are joined from finitely many of its lists, or none. The new start has
-/// its first edges, and a state of it its edges, and the first ones again if it accepts.
+/// A machine any number of times: the lists that are joined from finitely many of its lists, or none. The new start
+/// has its first edges, and a state of it its edges, and the first ones again if it accepts.
 pub fn the_repetition_accepts_any_number_of_lists<S>()
     ensures words { (m : Machine S) (w : List Letter) →
         Accepts (repeat_machine m) w ↔ IsRepetition (Accepts m) w }
     ensures unrolled { (m : Machine S) (w : List Letter) →
         Accepts (repeat_machine m) w
         ↔ ((w ≡ []) ⊎ ((u : List Letter) × (v : List Letter) × (w ≡ u ++ v) × (u ≢ [])
-            × Accepts m u × Accepts (repeat_machine m) v)) }
+        × Accepts m u × Accepts (repeat_machine m) v)) }
     ensures new { (m : Machine S) → length ((repeat_machine m).edges round.New) ≡ length (m.edges m.start) }
     ensures inner { (m : Machine S) (p : S) →
         length ((repeat_machine m).edges (round.Inner p)) ≤ length (m.edges p) + length (m.edges m.start) }

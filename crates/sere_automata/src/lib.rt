@@ -1,9 +1,8 @@
-//! Automata of sequences: no letter, one letter, one part after another, one of two parts, and a part any number of
+//! Automata of sequences: one letter, one part after another, one of two parts, and a part any number of
 //! times.
 #![tactic(auto)]
 
 mod concat;
-mod empty;
 pub mod laws;
 mod leaf;
 mod one_of;
@@ -13,7 +12,6 @@ mod states;
 mod tests;
 
 pub use concat::Concat;
-pub use empty::Empty;
 pub use leaf::Leaf;
 pub use one_of::OneOf;
 pub use repeat::Repeat;

@@ -28,7 +28,7 @@ impl<A: Auto, B: Auto> OneOf<A, B> {
         ensures made { result ≡ record { left = left; right = right } }
         ensures words { (w : List Letter) →
             Accepts (⟦<OneOf<A, B> as Auto>⟧.machine result) w
-                ↔ (Accepts (A.machine left) w ⊎ Accepts (B.machine right) w) }
+            ↔ (Accepts (A.machine left) w ⊎ Accepts (B.machine right) w) }
         ensures few { (i j : ℕ) →
             HasAtMost (A.own left) (A.machine left) i → HasAtMost (B.own right) (B.machine right) j →
             HasAtMost (⟦<OneOf<A, B> as Auto>⟧.own result) (⟦<OneOf<A, B> as Auto>⟧.machine result) (i + j) }
@@ -63,7 +63,7 @@ impl<A: Auto, B: Auto> OneOf<A, B> {
             (PutsEdge (one_of_edges (A.machine self.now.left) (B.machine self.now.right) New) place onto.old onto.new) }
         ensures passes { OnOk result
             (PassesEdge (one_of_edges (A.machine self.now.left) (B.machine self.now.right) New) place onto.old
-                onto.new) }
+            onto.new) }
         ensures kept { (l : Literal) → Contains onto.old l → Contains onto.new l }
     {
         let start = self.left.start();
@@ -132,8 +132,13 @@ impl<A: Auto, B: Auto> Auto for OneOf<A, B> {
     }
 
     ghost same = { same_choice A.same B.same (record {
-        left = λ p q. refl; right = λ p q. refl;
-        new_left = λ p. refl; new_right = λ q. refl; left_new = λ p. refl; right_new = λ q. refl;
-        left_right = λ p q. refl; right_left = λ q p. refl;
+      left = λ p q. refl;
+      right = λ p q. refl;
+      new_left = λ p. refl;
+      new_right = λ q. refl;
+      left_new = λ p. refl;
+      right_new = λ q. refl;
+      left_right = λ p q. refl;
+      right_left = λ q p. refl;
     }) };
 }

@@ -31,7 +31,7 @@ impl<A: Auto> Repeat<A> {
         ensures unrolled { (w : List Letter) →
             Accepts (⟦<Repeat<A> as Auto>⟧.machine result) w
             ↔ ((w ≡ []) ⊎ ((u : List Letter) × (v : List Letter) × (w ≡ u ++ v) × (u ≢ [])
-                × Accepts (A.machine inner) u × Accepts (⟦<Repeat<A> as Auto>⟧.machine result) v)) }
+            × Accepts (A.machine inner) u × Accepts (⟦<Repeat<A> as Auto>⟧.machine result) v)) }
         ensures few { (i : ℕ) → HasAtMost (A.own inner) (A.machine inner) i →
             HasAtMost (⟦<Repeat<A> as Auto>⟧.own result) (⟦<Repeat<A> as Auto>⟧.machine result) (i + i) }
         ensures fits { (i : ℕ) → A.fits inner → HasAtMost (A.own inner) (A.machine inner) i →
@@ -142,6 +142,8 @@ impl<A: Auto> Auto for Repeat<A> {
     }
 
     ghost same = { same_round A.same (record {
-        inner = λ p q. refl; new_inner = λ q. refl; inner_new = λ p. refl;
+      inner = λ p q. refl;
+      new_inner = λ q. refl;
+      inner_new = λ p. refl;
     }) };
 }

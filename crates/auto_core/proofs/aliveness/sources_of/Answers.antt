@@ -17,14 +17,14 @@ below c = let l = at c in omega (arith, c.loop-edge.invariant.size)
 stored : (c : goal.In_ok-put_source)
     → map vec_items (set c.loop-edge.rows.items c.edge-item.result.to c.put_source.new.row)
     ≡ set (map vec_items c.loop-edge.rows.items) c.edge-item.result.to
-        (get_or (map vec_items c.loop-edge.rows.items) c.edge-item.result.to [] ++ c.edge-item.result.from ∷ [])
+    (get_or (map vec_items c.loop-edge.rows.items) c.edge-item.result.to [] ++ c.edge-item.result.from ∷ [])
 stored c =
     map-set vec_items c.loop-edge.rows.items c.edge-item.result.to c.put_source.new.row
     ∙ ap (λ (s : List ℕ). set (map vec_items c.loop-edge.rows.items) c.edge-item.result.to s)
     (c.in_ok-put_source.ensures
     ∙ ap (λ (s : List ℕ). s ++ c.edge-item.result.from ∷ [])
     (ap vec_items c.index_mut.ensures.value
-        ∙ sym (get_or-map vec_items c.loop-edge.rows.items c.edge-item.result.to c.index_mut.result.now [] (below c))))
+    ∙ sym (get_or-map vec_items c.loop-edge.rows.items c.edge-item.result.to c.index_mut.result.now [] (below c))))
 
 pub loop-edge-preserved : goal.loop-edge-preserved
 loop-edge-preserved c = record {

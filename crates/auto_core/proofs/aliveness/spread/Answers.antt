@@ -27,7 +27,7 @@ sources_in g edges rows same has = subst (λ (s : List Edge). HasSources s rows)
 pub index-requires : goal.index-requires
 index-requires c =
     let l = state_inside c.args.table.now c.loop-state.marked.items c.loop-state.work.items c.pop.new.self.items
-        c.in-Some.state c.loop-state.invariant c.in-Some.ensures.items in
+    c.in-Some.state c.loop-state.invariant c.in-Some.ensures.items in
     let s : length c.in_ok-sources.sources.items ≡ c.states.result = c.in_ok-sources.ensures.size in
     let k : c.states.result ≡ length c.args.table.now.accepting = c.states.ensures in
     let o = c.in_ok-sources.sources.ok in
@@ -37,23 +37,23 @@ index-requires c =
 pub mark_all-requires : goal.mark_all-requires
 mark_all-requires c =
     row_inside c.args.table.now (map vec_items c.in_ok-sources.sources.items) c.in-Some.state c.as_slice.result.now
-        c.loop-state.marked.items
+    c.loop-state.marked.items
     (sources_in c.args.table.now _ _ c.edges.ensures.value c.in_ok-sources.ensures.sources)
     (row_in vec_items c.args.table.now c.in_ok-sources.sources.items _ c.in-Some.state c.index.result.now _
     (state_inside c.args.table.now c.loop-state.marked.items c.loop-state.work.items c.pop.new.self.items
-        c.in-Some.state c.loop-state.invariant c.in-Some.ensures.items)
+    c.in-Some.state c.loop-state.invariant c.in-Some.ensures.items)
     c.in_ok-sources.ensures.size c.states.ensures c.as_slice.ensures.value c.index.ensures)
     (between_in c.args.table.now _ c.edges.ensures.value c.edges.ensures.between) c.loop-state.invariant.size
 
 pub loop-state-preserved : goal.loop-state-preserved
 loop-state-preserved c =
     spread_step c.args.table.now (map vec_items c.in_ok-sources.sources.items) c.in-Some.state c.as_slice.result.now
-        c.loop-state.marked.items c.loop-state.work.items c.pop.new.self.items _ _
+    c.loop-state.marked.items c.loop-state.work.items c.pop.new.self.items _ _
     (sources_in c.args.table.now _ _ c.edges.ensures.value c.in_ok-sources.ensures.sources)
     (length-map c.in_ok-sources.sources.items vec_items ∙ c.in_ok-sources.ensures.size ∙ c.states.ensures)
     (row_in vec_items c.args.table.now c.in_ok-sources.sources.items _ c.in-Some.state c.index.result.now _
     (state_inside c.args.table.now c.loop-state.marked.items c.loop-state.work.items c.pop.new.self.items
-        c.in-Some.state c.loop-state.invariant c.in-Some.ensures.items)
+    c.in-Some.state c.loop-state.invariant c.in-Some.ensures.items)
     c.in_ok-sources.ensures.size c.states.ensures c.as_slice.ensures.value c.index.ensures)
     (between_in c.args.table.now _ c.edges.ensures.value c.edges.ensures.between) c.loop-state.invariant
-        c.in-Some.ensures.items c.in_ok-mark_all.ensures
+    c.in-Some.ensures.items c.in_ok-mark_all.ensures

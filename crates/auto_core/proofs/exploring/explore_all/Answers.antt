@@ -20,4 +20,4 @@ returns-in_err-number-clause-too_many g c h =
     let p = err_from_is_err_and c.from_residual.result c.from_residual.ensures.1 in
     let q : c.number.result ≡ Err TooMany = cc (c.in_err-number.was, p.1, p.2) in
     start_too_many _ (decides g) (g.A.Auto.own c.args.automaton.now) _ _ c.args.seen.now.states.keys c.start.result
-        c.requires.no_states (c.number.ensures.full q)
+    c.requires.no_states (c.number.ensures.full q)

@@ -23,11 +23,11 @@ returns-in_err-take_edge-clause-too_many g c h =
     let p = err_from_is_err_and c.from_residual.result c.from_residual.ensures.1 in
     let q : c.take_edge.result ≡ Err TooMany = cc (c.in_err-take_edge.was, p.1, p.2) in
     too_many_after _ (decides g) _ _ _ _ _ _ _ _ c.loop-place.invariant.explored
-        (state_reached _ (decides g) _ _ _ _ _ _ _ _ _ _ c.requires.named c.loop-place.invariant)
-        (c.take_edge.ensures.too_many q)
+    (state_reached _ (decides g) _ _ _ _ _ _ _ _ _ _ c.requires.named c.loop-place.invariant)
+    (c.take_edge.ensures.too_many q)
 
 pub returns-clause-explored : goal.returns-clause-explored
 returns-clause-explored g c =
     let all : c.loop-place.place ≡ length ((g.A.Auto.machine c.args.automaton.now).edges c.args.state) =
-        omega (arith, c.edge_count-place-end.ensures, c.loop-place.auto.place-end, c.loop-place-test.false) in
+    omega (arith, c.edge_count-place-end.ensures, c.loop-place.auto.place-end, c.loop-place-test.false) in
     state_done _ (decides g) _ _ _ _ _ _ _ _ _ _ all c.requires.named c.loop-place.invariant

@@ -22,9 +22,9 @@ returns-clause-few g c = few_reached _ (decides g) _ _ _ _ _ c.in_ok-explore_all
 pub returns-clause-same_part : goal.returns-clause-same_part
 returns-clause-same_part g c =
     let graph =
-        graph_all _ (decides g) _ _ _ _ _ c.in_ok-explore_all.ensures.explored _ c.from_rows.result
-        c.in_ok-explore_all.ensures.filed c.in_ok-explore_all.ensures.all c.from_rows.ensures.accepting
-        c.from_rows.ensures.edges in
+    graph_all _ (decides g) _ _ _ _ _ c.in_ok-explore_all.ensures.explored _ c.from_rows.result
+    c.in_ok-explore_all.ensures.filed c.in_ok-explore_all.ensures.all c.from_rows.ensures.accepting
+    c.from_rows.ensures.edges in
     (c.explore_all.new.seen.states.keys, graph.owned, reached_part _ (decides g) _ _ _ _ graph)
 
 pub returns-clause-same_words : goal.returns-clause-same_words

@@ -12,7 +12,7 @@ returns-clause-words g c = λ m n w.
     (c.renamed_lists_have_the_renamed_edges.ensures Left)
     (c.tested_lists_have_the_tested_edges.ensures m.accepts)
     (λ q v. c.a_copy_of_a_machine_accepts_the_same.ensures n (fuse_machine m n) Right q v
-        (record { accepts = λ s. refl; edges = λ s. refl }))
+    (record { accepts = λ s. refl; edges = λ s. refl }))
     w
 
 pub returns-clause-left : goal.returns-clause-left

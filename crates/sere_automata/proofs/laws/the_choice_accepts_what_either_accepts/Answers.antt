@@ -10,9 +10,9 @@ returns-clause-words g c = λ m n w.
     one_of_words m n (c.renamed_lists_have_the_renamed_edges.ensures Left)
     (c.renamed_lists_have_the_renamed_edges-2.ensures Right)
     (λ p v. c.a_copy_of_a_machine_accepts_the_same.ensures m (one_of_machine m n) Left p v
-        (record { accepts = λ s. refl; edges = λ s. refl }))
+    (record { accepts = λ s. refl; edges = λ s. refl }))
     (λ q v. c.a_copy_of_a_machine_accepts_the_same-2.ensures n (one_of_machine m n) Right q v
-        (record { accepts = λ s. refl; edges = λ s. refl }))
+    (record { accepts = λ s. refl; edges = λ s. refl }))
     w
 
 pub returns-clause-new : goal.returns-clause-new

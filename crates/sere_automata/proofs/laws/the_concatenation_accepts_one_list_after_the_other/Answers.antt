@@ -10,7 +10,7 @@ returns-clause-words g c = λ m n w.
     concat_words m n (c.renamed_lists_have_the_renamed_edges.ensures Left)
     (c.renamed_lists_have_the_renamed_edges-2.ensures Right)
     (λ q v. c.a_copy_of_a_machine_accepts_the_same.ensures n (concat_machine m n) Right q v
-        (record { accepts = λ s. refl; edges = λ s. refl }))
+    (record { accepts = λ s. refl; edges = λ s. refl }))
     w
 
 pub returns-clause-left : goal.returns-clause-left

@@ -10,8 +10,8 @@ returns-then-seen-rank-clause-same g c =
     let edge = c.target-next.ensures.edge in
     let passed = sym c.accepts.ensures ∙ c.if-accepts.true in
     let found =
-        filtered_at (λ x. m.accepts x.1) (m.edges c.args.state) c.loop-place.place (edge.0, c.target-next.result) edge.1
-        passed in
+    filtered_at (λ x. m.accepts x.1) (m.edges c.args.state) c.loop-place.place (edge.0, c.target-next.result) edge.1
+    passed in
     edge.1 ∙ sym found
     ∙ ap (λ n. slice_get (last_edges m c.args.state) n) (sym c.loop-place.invariant.1 ∙ c.if-seen-rank.true)
 

@@ -12,7 +12,7 @@ set_after c = c.in_ok-insert-in-Err.ensures.ok ∙ let e : c.as_slice.result.now
     c.as_slice.ensures in
     subst (λ (s : List Literal). insert s c.in-Err.place c.args.literal ≡ put_literal c.args.literal s) e
     (placed c.args.literal c.as_slice.result.now (subst IsLabel (sym e) c.self.invariant) c.in-Err.place
-        c.in-Err.ensures.bound c.in-Err.ensures.position)
+    c.in-Err.ensures.bound c.in-Err.ensures.position)
 
 put_after : (c : goal.In_ok-insert-in-Err) → c.insert.new.self.items ≡ put_literal c.args.literal c.args.self.now
 put_after c = set_after c ∙ ap (put_literal c.args.literal) c.self.view_is
@@ -27,7 +27,7 @@ returns-in_ok-insert-in-Err-clause-ok c = put_after c
 pub returns-in_ok-insert-in-Err-clause-members : goal.returns-in_ok-insert-in-Err-clause-members
 returns-in_ok-insert-in-Err-clause-members c =
     subst (λ (s : List Literal). (l : Literal) → Contains s l ↔ ((l ≡ c.args.literal) ⊎ Contains c.args.self.now l))
-        (sym (put_after c))
+    (sym (put_after c))
     (λ l. Contains-put_literal c.args.literal c.args.self.now l)
 
 pub returns-in-Ok-clause-ok : goal.returns-in-Ok-clause-ok
@@ -35,4 +35,4 @@ returns-in-Ok-clause-ok c =
     let e : c.as_slice.result.now ≡ c.self.inside.literals.items = c.as_slice.ensures in
     subst (λ (s : List Literal). s ≡ put_literal c.args.literal s) (e ∙ c.self.view_is)
     (found c.args.literal c.as_slice.result.now (subst IsLabel (sym e) c.self.invariant) c.in-Ok.field-0
-        c.in-Ok.ensures.bound c.in-Ok.ensures.position)
+    c.in-Ok.ensures.bound c.in-Ok.ensures.position)

@@ -10,7 +10,7 @@ more : (ls ms now new : List Literal) (i : _) (d : Literal) → i < length ls �
     new ≡ put_literal (get_or ls i d) now → new ≡ put_all (take (i + 1) ls) ms
 more ls ms now new i d lt before step =
     step ∙ ap (put_literal (get_or ls i d)) before ∙ sym (put_all-push (take i ls) (get_or ls i d) ms)
-        ∙ ap (λ (s : List Literal). put_all s ms) (sym (take_more ls i d lt))
+    ∙ ap (λ (s : List Literal). put_all s ms) (sym (take_more ls i d lt))
 
 pub returns-in_err-put-clause-kept : goal.returns-in_err-put-clause-kept
 returns-in_err-put-clause-kept c l h = kept_by_put_all
@@ -33,5 +33,5 @@ returns-clause-passes c a =
     let all = take_all c.loop-literal.literal-index items (omega (arith, c.loop-literal-test.false)) in
     let same = all ∙ c.literals-literal-items.ensures.value in
     let whole : c.loop-literal.self ≡ put_all other old =
-        c.loop-literal.invariant ∙ ap (λ (ls : List Literal). put_all ls old) same in
+    c.loop-literal.invariant ∙ ap (λ (ls : List Literal). put_all ls old) same in
     subst (λ (s : List Literal). Passes s a ↔ (Passes other a × Passes old a)) (sym whole) (Passes-put_all other old a)

@@ -22,5 +22,5 @@ returns-clause-few c =
     let listed = ap (λ (es : List Edge). length es) c.as_slice.ensures.keys in
     let viewed = ap (λ (g : Graph). length g.edges) c.self.view_is in
     let few : (n : ℕ) → length (edges_from n edges) ≤ length c.as_slice.result.now =
-        λ n. omega (arith, few_from edges n, listed, viewed) in
+    λ n. omega (arith, few_from edges n, listed, viewed) in
     record { start = few 0; each = λ s below. few s }

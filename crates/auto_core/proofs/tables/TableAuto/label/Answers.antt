@@ -5,8 +5,13 @@ use Rattle.auto_core.proofs.tables.TableAuto.label.Goals as goal
 
 pub returns-clause-edge : goal.returns-clause-edge
 returns-clause-edge c = on_ok_weaker c.put_all.result
-    (λ same. (c.edge.result.now.label, c.edge.result.now.to, edge_of_machine c.args.self.now.edges c.args.state
-        c.args.place c.edge.result.now c.edge.ensures.value, (c.edge.ensures.ordered, same)))
+    (λ same. (
+      c.edge.result.now.label,
+      c.edge.result.now.to,
+      edge_of_machine c.args.self.now.edges c.args.state
+          c.args.place c.edge.result.now c.edge.ensures.value,
+      (c.edge.ensures.ordered, same),
+    ))
     c.put_all.ensures.ok
 
 pub returns-clause-passes : goal.returns-clause-passes

@@ -11,8 +11,12 @@ at_place x (suc (suc n)) lt = absurd (omega arith)
 
 pub returns-clause-edge : goal.returns-clause-edge
 returns-clause-edge c = on_ok_weaker c.put_all.result
-    (λ same. (c.args.self.now.label, 1, at_place (c.args.self.now.label, 1) c.args._place c.requires.there,
-        (subst IsLabel c.literals-literals.ensures.value c.literals-literals.ensures.ordered, same)))
+    (λ same. (
+      c.args.self.now.label,
+      1,
+      at_place (c.args.self.now.label, 1) c.args._place c.requires.there,
+      (subst IsLabel c.literals-literals.ensures.value c.literals-literals.ensures.ordered, same),
+    ))
     c.put_all.ensures.ok
 
 pub returns-clause-passes : goal.returns-clause-passes

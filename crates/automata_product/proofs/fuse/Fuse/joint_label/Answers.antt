@@ -31,7 +31,7 @@ label-requires-2-clause-there g c =
 pub returns-clause-edge : goal.returns-clause-edge
 returns-clause-edge g c =
     let within = joint_within (g.A.Auto.machine c.args.self.now.left) (g.B.Auto.machine c.args.self.now.right)
-        c.args.state
+    c.args.state
     c.start-start.result c.edge_count-count.result c.args.place
     c.start-start.ensures.value c.edge_count-count.ensures c.requires.there in
     on_ok_weaker c.label-2.result

@@ -20,7 +20,7 @@ returns-else-accepts-clause-edge g c =
     c.args.state c.accepts.result c.accepts.ensures c.if-accepts.false)
     (on_ok_weaker c.label.result
     (puts-renamed Left ((g.A.Auto.machine c.args.self.now.left).edges c.args.state) c.args.place c.args.onto.now
-        c.label.new.onto)
+    c.label.new.onto)
     c.label.ensures.edge)
 
 pub returns-then-accepts-clause-passes : goal.returns-then-accepts-clause-passes
@@ -37,5 +37,5 @@ returns-else-accepts-clause-passes g c =
     c.args.state c.accepts.result c.accepts.ensures c.if-accepts.false)
     (on_ok_weaker c.label.result
     (passes-renamed Left ((g.A.Auto.machine c.args.self.now.left).edges c.args.state) c.args.place c.args.onto.now
-        c.label.new.onto)
+    c.label.new.onto)
     c.label.ensures.passes)

@@ -14,7 +14,7 @@ returns-clause-edge g c =
     (on_ok_weaker c.either_label.result
     (puts-renamed choice_of
     (either_edges (g.A.Auto.machine c.args.self.now.left) (g.B.Auto.machine c.args.self.now.right)
-        c.start-start.result c.start-other.result)
+    c.start-start.result c.start-other.result)
     c.args.place c.args.onto.now c.either_label.new.onto)
     c.either_label.ensures.edge)
 
@@ -26,6 +26,6 @@ returns-clause-passes g c =
     (on_ok_weaker c.either_label.result
     (passes-renamed choice_of
     (either_edges (g.A.Auto.machine c.args.self.now.left) (g.B.Auto.machine c.args.self.now.right)
-        c.start-start.result c.start-other.result)
+    c.start-start.result c.start-other.result)
     c.args.place c.args.onto.now c.either_label.new.onto)
     c.either_label.ensures.passes)

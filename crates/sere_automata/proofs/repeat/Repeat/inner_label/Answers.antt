@@ -15,7 +15,7 @@ returns-then-accepts-clause-edge g c =
     (on_ok_weaker c.either_label.result
     (puts-renamed round_of
     (either_edges (g.A.Auto.machine c.args.self.now.inner) (g.A.Auto.machine c.args.self.now.inner) c.args.state
-        c.start-start.result)
+    c.start-start.result)
     c.args.place c.args.onto.now c.either_label.new.onto)
     c.either_label.ensures.edge)
 
@@ -26,7 +26,7 @@ returns-else-accepts-clause-edge g c =
     c.args.state c.accepts.result c.accepts.ensures c.if-accepts.false)
     (on_ok_weaker c.label.result
     (puts-renamed Inner ((g.A.Auto.machine c.args.self.now.inner).edges c.args.state) c.args.place c.args.onto.now
-        c.label.new.onto)
+    c.label.new.onto)
     c.label.ensures.edge)
 
 pub returns-then-accepts-clause-passes : goal.returns-then-accepts-clause-passes
@@ -37,7 +37,7 @@ returns-then-accepts-clause-passes g c =
     (on_ok_weaker c.either_label.result
     (passes-renamed round_of
     (either_edges (g.A.Auto.machine c.args.self.now.inner) (g.A.Auto.machine c.args.self.now.inner) c.args.state
-        c.start-start.result)
+    c.start-start.result)
     c.args.place c.args.onto.now c.either_label.new.onto)
     c.either_label.ensures.passes)
 
@@ -48,5 +48,5 @@ returns-else-accepts-clause-passes g c =
     c.args.state c.accepts.result c.accepts.ensures c.if-accepts.false)
     (on_ok_weaker c.label.result
     (passes-renamed Inner ((g.A.Auto.machine c.args.self.now.inner).edges c.args.state) c.args.place c.args.onto.now
-        c.label.new.onto)
+    c.label.new.onto)
     c.label.ensures.passes)
