@@ -4,7 +4,8 @@ ghost use Rattle.std.specs.Prelude.{◌≡◌, ℕ, List, [], ◌∷◌};
 ghost use Rattle.verilog_text.specs.Module.{IsLawful};
 ghost use Rattle.verilog_text.specs.Text.{spelling};
 ghost use Rattle.verilog_text.specs.Run.{Cycle, IsRunFromReset, fail_stream};
-ghost use Rattle.verilog_text.specs.Examples.{small_checker, small_text, one_then_zero, never_ending, reset_cycle, two_cycles};
+ghost use Rattle.verilog_text.specs.Examples.{small_checker, small_text, one_then_zero, never_ending, reset_cycle};
+ghost use Rattle.verilog_text.specs.Examples.{two_cycles};
 
 /// The checker has this text, byte for byte.
 pub fn small_checker_is_spelled()

@@ -2,7 +2,10 @@
 
 ghost use Rattle.std.specs.Prelude.{◌≡◌, ◌++◌, OnOk, codes, map, flat_map};
 ghost use Rattle.verilog_text.specs.Module.{names_of};
-ghost use Rattle.verilog_text.specs.Text.{each_numbered, range_text, header_line, report_line, input_lines, port_line, output_line, register_line, wire_declaration, wire_line, fail_line, update_text, always_line, end_line, interface_lines, declaration_lines, behaviour_lines, spelling};
+ghost use Rattle.verilog_text.specs.Text.{each_numbered, range_text, header_line, report_line, input_lines};
+ghost use Rattle.verilog_text.specs.Text.{port_line, output_line, register_line, wire_declaration, wire_line};
+ghost use Rattle.verilog_text.specs.Text.{fail_line, update_text, always_line, end_line, interface_lines};
+ghost use Rattle.verilog_text.specs.Text.{declaration_lines, behaviour_lines, spelling};
 ghost use Rattle.verilog_text.specs.View.{module_of, register_of, wire_of};
 ghost use Rattle.verilog_text.specs.Growth.{Extends};
 
