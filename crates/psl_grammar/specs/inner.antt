@@ -1,0 +1,3 @@
+-- What no reader has to believe: codes by which the logic stores trees.
+pub mod CodeParts
+pub mod Codes

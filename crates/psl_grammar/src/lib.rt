@@ -1,0 +1,12 @@
+//! The unit as it is written: the raw tree over the numbers of tokens.
+#![tactic(auto)]
+
+mod expressions;
+mod items;
+mod properties;
+mod sequences;
+
+pub use expressions::{RawExpr, RawSubexpr};
+pub use items::{RawItem, RawUnit, TokenList};
+pub use properties::{RawProp, RawSubprop};
+pub use sequences::{RawRep, RawSere, RawSubsere};
