@@ -4,4 +4,8 @@ pub mod RawProp
 pub mod RawUnit
 pub mod View
 pub mod UnitView
+pub mod Symbols
+pub mod ExprGrammar
+pub mod SereGrammar
+pub mod PropGrammar
 pub mod inner

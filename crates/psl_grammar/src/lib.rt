@@ -5,8 +5,10 @@ mod expressions;
 mod items;
 mod properties;
 mod sequences;
+mod symbols;
 
 pub use expressions::{RawExpr, RawSubexpr};
 pub use items::{RawItem, RawUnit, TokenList};
 pub use properties::{RawProp, RawSubprop};
 pub use sequences::{RawRep, RawSere, RawSubsere};
+pub use symbols::Symbol;

@@ -1,0 +1,24 @@
+-- The levels of operators, one by one.
+use Rattle.std.proofs.Common.{◌≡◌, ℕ, zero, suc, Bool, List, length, refl, ap, subst, sym, arith}
+use Rattle.psl_grammar.specs.declared.symbols.Symbol.{Symbol}
+use Rattle.psl_grammar.specs.RawExpr.{RawExpr}
+use Rattle.psl_parser.specs.inner.Steps.{◌>>=◌, Read, loop}
+use Rattle.psl_parser.specs.inner.ExprReaders.{joins, join_with, levels_with, joined_with}
+
+module _ (symbols : List Symbol) (operand : ℕ → Read RawExpr) (braced : Bool) where
+  pub next_level : (k : ℕ) (l : RawExpr × ℕ)
+      → levels_with symbols operand braced (suc k) l
+      ≡ (levels_with symbols operand braced k l
+      >>= loop (joins symbols braced (suc k)) (join_with symbols (joined_with symbols operand braced k)) (suc (length symbols)))
+  unfolding levels_with joined_with
+  next_level k l = refl
+
+  pub level_step : (level k : ℕ) → level ≡ suc k → (l : RawExpr × ℕ)
+      → levels_with symbols operand braced level l
+      ≡ (levels_with symbols operand braced k l
+      >>= loop (joins symbols braced level) (join_with symbols (joined_with symbols operand braced k)) (suc (length symbols)))
+  level_step level k same l =
+      subst (λ (n : ℕ). levels_with symbols operand braced n l
+      ≡ (levels_with symbols operand braced k l
+      >>= loop (joins symbols braced n) (join_with symbols (joined_with symbols operand braced k)) (suc (length symbols))))
+      (sym same) (next_level k l)
