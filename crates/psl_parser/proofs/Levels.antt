@@ -2,8 +2,10 @@
 use Rattle.std.proofs.Common.{◌≡◌, ℕ, zero, suc, Bool, List, length, refl, ap, subst, sym, arith}
 use Rattle.psl_grammar.specs.declared.symbols.Symbol.{Symbol}
 use Rattle.psl_grammar.specs.RawExpr.{RawExpr}
+use Rattle.psl_grammar.specs.RawSere.{RawSere}
 use Rattle.psl_parser.specs.inner.Steps.{◌>>=◌, Read, loop}
 use Rattle.psl_parser.specs.inner.ExprReaders.{joins, join_with, levels_with, joined_with}
+use Rattle.psl_parser.specs.inner.SereReaders.{sere_joins, sere_join_with, levels_above}
 
 module _ (symbols : List Symbol) (operand : ℕ → Read RawExpr) (braced : Bool) where
   pub next_level : (k : ℕ) (l : RawExpr × ℕ)
@@ -22,3 +24,21 @@ module _ (symbols : List Symbol) (operand : ℕ → Read RawExpr) (braced : Bool
       ≡ (levels_with symbols operand braced k l
       >>= loop (joins symbols braced n) (join_with symbols (joined_with symbols operand braced k)) (suc (length symbols))))
       (sym same) (next_level k l)
+
+module _ (symbols : List Symbol) (elem : ℕ → Read RawSere) where
+  next_above : (k i : ℕ)
+      → levels_above symbols elem (suc k) i
+      ≡ (levels_above symbols elem k i
+      >>= loop (sere_joins symbols (suc (suc k))) (sere_join_with symbols (levels_above symbols elem k)) (suc (length symbols)))
+  unfolding levels_above
+  next_above k i = refl
+
+  pub above_step : (above k : ℕ) → above ≡ suc k → (i : ℕ)
+      → levels_above symbols elem above i
+      ≡ (levels_above symbols elem k i
+      >>= loop (sere_joins symbols (suc above)) (sere_join_with symbols (levels_above symbols elem k)) (suc (length symbols)))
+  above_step above k same i =
+      subst (λ (n : ℕ). levels_above symbols elem n i
+      ≡ (levels_above symbols elem k i
+      >>= loop (sere_joins symbols (suc n)) (sere_join_with symbols (levels_above symbols elem k)) (suc (length symbols))))
+      (sym same) (next_above k i)

@@ -151,7 +151,7 @@ pub fn read_operand(
 /// An expression in parentheses.
 #[cycle(expr)]
 #[tactic(auto, using(crate::proofs::Loops::stopped), unfolding(crate::specs::inner::ExprReaders::paren_with))]
-fn read_paren(
+pub fn read_paren(
     alloc: Global,
     symbols: &[Symbol],
     room: u32,

@@ -1,8 +1,13 @@
 //! From the tokens of a unit to its raw tree.
 #![tactic(auto)]
 
+mod bodies;
 mod errors;
 mod expressions;
+mod next_forms;
+mod operators;
+mod properties;
+mod sequences;
 mod symbols;
 mod trees;
 

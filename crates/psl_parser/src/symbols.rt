@@ -3,6 +3,8 @@
 ghost use Rattle.std.specs.Prelude.{◌≡◌, ◌<◌, ◌+◌, ◌^◌};
 ghost use Rattle.psl_grammar.specs.Symbols.{symbol_at, after_level, level_at, may_join, begins_sequence, is_prefix, is_literal, sere_level, is_pick, is_high};
 ghost use Rattle.psl_parser.specs.inner.Steps.{is_at};
+ghost use Rattle.psl_parser.specs.inner.SereReaders.{is_times};
+ghost use Rattle.psl_parser.specs.inner.PropReaders.{is_rep};
 
 use psl_grammar::Symbol;
 
@@ -108,4 +110,18 @@ pub fn is_high(symbol: Symbol) -> bool
     ensures { result ≡ is_high symbol }
 {
     matches!(symbol, Symbol::Number | Symbol::Inf)
+}
+
+/// Whether a repetition of anything begins with the symbol.
+pub fn is_times(symbol: Symbol) -> bool
+    ensures { result ≡ is_times symbol }
+{
+    symbol == Symbol::RepeatOpen || symbol == Symbol::RepeatPlus
+}
+
+/// Whether a repetition begins with the symbol.
+pub fn is_rep(symbol: Symbol) -> bool
+    ensures { result ≡ is_rep symbol }
+{
+    is_times(symbol) || is_pick(symbol)
 }
