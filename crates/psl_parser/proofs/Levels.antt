@@ -1,11 +1,13 @@
 -- The levels of operators, one by one.
-use Rattle.std.proofs.Common.{◌≡◌, ℕ, zero, suc, Bool, List, length, refl, ap, subst, sym, arith}
+use Rattle.std.proofs.Common.{◌-◌, ◌<◌, ◌≡◌, ℕ, zero, suc, Bool, Option, Some, None, List, length, refl, ap, subst, sym, arith}
 use Rattle.psl_grammar.specs.declared.symbols.Symbol.{Symbol}
 use Rattle.psl_grammar.specs.RawExpr.{RawExpr}
 use Rattle.psl_grammar.specs.RawSere.{RawSere}
+use Rattle.psl_grammar.specs.PropGrammar.{Phrase}
 use Rattle.psl_parser.specs.inner.Steps.{◌>>=◌, Read, loop}
 use Rattle.psl_parser.specs.inner.ExprReaders.{joins, join_with, levels_with, joined_with}
 use Rattle.psl_parser.specs.inner.SereReaders.{sere_joins, sere_join_with, levels_above}
+use Rattle.psl_parser.specs.inner.PropReaders.{phrase_with, prop_at}
 
 module _ (symbols : List Symbol) (operand : ℕ → Read RawExpr) (braced : Bool) where
   pub next_level : (k : ℕ) (l : RawExpr × ℕ)
@@ -14,6 +16,18 @@ module _ (symbols : List Symbol) (operand : ℕ → Read RawExpr) (braced : Bool
       >>= loop (joins symbols braced (suc k)) (join_with symbols (joined_with symbols operand braced k)) (suc (length symbols)))
   unfolding levels_with joined_with
   next_level k l = refl
+
+  assoc : {A B C : Type 0} (o : Option A) (f : A → Option B) (g : B → Option C) → (o >>= λ x. f x >>= g) ≡ (o >>= f >>= g)
+  assoc None f g = refl
+  assoc (Some x) f g = refl
+
+  pub joined_again : (k i : ℕ)
+      → joined_with symbols operand braced (suc k) i
+      ≡ (joined_with symbols operand braced k i
+      >>= loop (joins symbols braced (suc k)) (join_with symbols (joined_with symbols operand braced k)) (suc (length symbols)))
+  unfolding joined_with levels_with
+  joined_again k i = assoc (operand i) (levels_with symbols operand braced k)
+      (loop (joins symbols braced (suc k)) (join_with symbols (joined_with symbols operand braced k)) (suc (length symbols)))
 
   pub level_step : (level k : ℕ) → level ≡ suc k → (l : RawExpr × ℕ)
       → levels_with symbols operand braced level l
@@ -42,3 +56,12 @@ module _ (symbols : List Symbol) (elem : ℕ → Read RawSere) where
       ≡ (levels_above symbols elem k i
       >>= loop (sere_joins symbols (suc n)) (sere_join_with symbols (levels_above symbols elem k)) (suc (length symbols))))
       (sym same) (next_above k i)
+
+module _ (symbols : List Symbol) where
+  pub opens_is : (room : ℕ) → 0 < room → (phrase : Phrase) (i : ℕ)
+      → prop_at symbols room phrase i ≡ phrase_with symbols (prop_at symbols (room - 1)) (room - 1) phrase i
+  unfolding prop_at
+  opens_is zero some phrase i = absurd (omega arith)
+  opens_is (suc r) some phrase i =
+      let same : r ≡ suc r - 1 = omega arith in
+      subst (λ (n : ℕ). prop_at symbols (suc r) phrase i ≡ phrase_with symbols (prop_at symbols n) n phrase i) same refl

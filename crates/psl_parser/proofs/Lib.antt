@@ -1,2 +1,10 @@
 pub mod Loops
 pub mod Levels
+pub mod Tests
+pub mod ExprFacts
+pub mod ExprReads
+pub mod ExprSpells
+pub mod SereFacts
+pub mod SereReads
+pub mod SereSpells
+pub mod PropReads

@@ -24,7 +24,7 @@ use std::alloc::Global;
 
 /// A body inside one more open phrase.
 #[cycle(prop)]
-#[tactic(auto, unfolding(crate::specs::inner::PropReaders::prop_at))]
+#[tactic(auto, unfolding(crate::specs::inner::PropReaders::prop_at, crate::specs::inner::PropReaders::phrase_with))]
 fn open_body(alloc: Global, symbols: &[Symbol], room: u32, body: Body, from: u32) -> Result<(RawProp, u32), ParseError>
     requires few { length symbols.now ≤ 1048576 }
     requires within { from ≤ length symbols.now }

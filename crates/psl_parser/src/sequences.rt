@@ -252,7 +252,7 @@ fn read_sere_joins(alloc: Global, symbols: &[Symbol], room: u32, above: u32, fir
 {
     let mut left = first;
     let mut to = end;
-    'joins: while sere_joins(symbols, above + 1, to) {
+    'joins: while sere_joins(symbols, above, to) {
         match read_sere_join(alloc, symbols, room, above, left, to) {
             Ok((whole, after)) => {
                 left = whole;
@@ -283,10 +283,11 @@ fn read_sere_join(alloc: Global, symbols: &[Symbol], room: u32, above: u32, left
     Ok((whole, to))
 }
 
-fn sere_joins(symbols: &[Symbol], level: u32, place: u32) -> bool
-    ensures { result ≡ sere_joins symbols.now level place }
+fn sere_joins(symbols: &[Symbol], above: u32, place: u32) -> bool
+    requires levels { above ≤ 5 }
+    ensures { result ≡ sere_joins symbols.now (suc above) place }
 {
-    sere_level(symbol_at(symbols, place)) == level
+    sere_level(symbol_at(symbols, place)) == above + 1
 }
 
 /// What operators join inside braces, with its repetitions.
