@@ -36,7 +36,7 @@ module _ (symbols : List Symbol) where
   pub at : (i : ℕ) (s : Symbol) → At symbols i s → is_at symbols i s ≡ true
   at i s h = is_self (symbol_at symbols i) s h
 
-  not_at : (i : ℕ) (s : Symbol) → (At symbols i s → ⊥) → is_at symbols i s ≡ false
+  pub not_at : (i : ℕ) (s : Symbol) → (At symbols i s → ⊥) → is_at symbols i s ≡ false
   not_at i s h = is_other (symbol_at symbols i) s h
 
   literal_name : (s : Symbol) → IsTrue (is_literal s) → s ≡ symbol.Name → ⊥
@@ -145,10 +145,10 @@ module _ (symbols : List Symbol) where
   unfolding name_at
   whole_read i none = that_way _ _ _ _ none refl
 
-  close_ends : (j : ℕ) → At symbols j symbol.CloseParenthesis → Ends symbols false 10 j
+  pub close_ends : (j : ℕ) → At symbols j symbol.CloseParenthesis → Ends symbols false 10 j
   close_ends j h = let z : level_at false symbols j ≡ 11 = rw h refl in omega (arith, z)
 
-  colon_ends : (j : ℕ) → At symbols j symbol.Colon → Ends symbols false 10 j
+  pub colon_ends : (j : ℕ) → At symbols j symbol.Colon → Ends symbols false 10 j
   colon_ends j h = let z : level_at false symbols j ≡ 11 = rw h refl in omega (arith, z)
 
   -- the test of a choice, where none follows, is the whole
@@ -184,7 +184,7 @@ module _ (symbols : List Symbol) where
         ∙ ap (λ (o : Option (RawExpr × ℕ)). o >>= loop (joins symbols braced (suc k)) (join_with symbols (joined_with symbols (operand_in symbols room) braced k)) (suc (length symbols))) r;
   }
 
-  paren_read : (r i j : ℕ) (e : RawExpr) → choice_at symbols (suc r) false (i + 1) ≡ Some (e, j) → At symbols j symbol.CloseParenthesis
+  pub paren_read : (r i j : ℕ) (e : RawExpr) → choice_at symbols (suc r) false (i + 1) ≡ Some (e, j) → At symbols j symbol.CloseParenthesis
       → paren_with symbols (choice_at symbols (suc r) false) i ≡ Some (e, j + 1)
   unfolding paren_with
   paren_read r i j e a q = then _ _ (e, j) _ a (has _ _ _ (at j symbol.CloseParenthesis q) refl)
@@ -198,7 +198,7 @@ module _ (symbols : List Symbol) where
   unfolding operand_at
   inner_operand room i y e = e
 
-  inner_choice : (room : ℕ) (b : Bool) (i : ℕ) (y : Option (RawExpr × ℕ)) → choice_in symbols room b i ≡ y → choice_at symbols (suc room) b i ≡ y
+  pub inner_choice : (room : ℕ) (b : Bool) (i : ℕ) (y : Option (RawExpr × ℕ)) → choice_in symbols room b i ≡ y → choice_at symbols (suc room) b i ≡ y
   unfolding operand_at choice_at
   inner_choice room b i y e = e
 

@@ -1,5 +1,5 @@
 -- The levels of operators, one by one.
-use Rattle.std.proofs.Common.{◌-◌, ◌<◌, ◌≡◌, ℕ, zero, suc, Bool, Option, Some, None, List, length, refl, ap, subst, sym, arith}
+use Rattle.std.proofs.Common.{◌-◌, ◌<◌, ◌≡◌, ℕ, zero, suc, Bool, true, false, Option, Some, None, List, length, refl, ap, subst, sym, arith}
 use Rattle.psl_grammar.specs.declared.symbols.Symbol.{Symbol}
 use Rattle.psl_grammar.specs.RawExpr.{RawExpr}
 use Rattle.psl_grammar.specs.RawSere.{RawSere}
@@ -7,7 +7,8 @@ use Rattle.psl_grammar.specs.PropGrammar.{Phrase}
 use Rattle.psl_parser.specs.inner.Steps.{◌>>=◌, Read, loop}
 use Rattle.psl_parser.specs.inner.ExprReaders.{joins, join_with, levels_with, joined_with}
 use Rattle.psl_parser.specs.inner.SereReaders.{sere_joins, sere_join_with, levels_above}
-use Rattle.psl_parser.specs.inner.PropReaders.{phrase_with, prop_at}
+use Rattle.psl_parser.specs.inner.PropReaders.{sequence_of, suffix_of, phrase_with, prop_at}
+use Rattle.psl_grammar.specs.RawProp.{RawProp, seq}
 
 module _ (symbols : List Symbol) (operand : ℕ → Read RawExpr) (braced : Bool) where
   pub next_level : (k : ℕ) (l : RawExpr × ℕ)
@@ -65,3 +66,15 @@ module _ (symbols : List Symbol) where
   opens_is (suc r) some phrase i =
       let same : r ≡ suc r - 1 = omega arith in
       subst (λ (n : ℕ). prop_at symbols (suc r) phrase i ≡ phrase_with symbols (prop_at symbols n) n phrase i) same refl
+
+  module _ (inner : Phrase → ℕ → Read RawProp) (room : ℕ) where
+    pub suffix_known : (p : RawProp) (s : RawSere) (m : ℕ) → sequence_of p ≡ Some s
+        → suffix_of symbols inner room p m ≡ suffix_of symbols inner room (seq s false) m
+    suffix_known (seq r false) s m e =
+        let same : r ≡ s = cc in ap (λ (x : RawSere). suffix_of symbols inner room (seq x false) m) same
+    suffix_known p s m e = absurd (cc)
+
+    pub suffix_none : (p : RawProp) (m : ℕ) → sequence_of p ≡ None → suffix_of symbols inner room p m ≡ None
+    unfolding suffix_of
+    suffix_none (seq r false) m e = absurd (cc)
+    suffix_none p m e = refl

@@ -8,3 +8,6 @@ pub mod SereFacts
 pub mod SereReads
 pub mod SereSpells
 pub mod PropReads
+pub mod PropSound
+pub mod PropFacts
+pub mod PropSpells

@@ -24,7 +24,7 @@ use Rattle.psl_parser.proofs.SereReads.{tight_is, bool_read, after_read}
 use Rattle.psl_parser.proofs.SereFacts.{times_are}
 
 module _ (symbols : List Symbol) where
-  at : (i : ℕ) (s : Symbol) → is_at symbols i s ≡ true → At symbols i s
+  pub at : (i : ℕ) (s : Symbol) → is_at symbols i s ≡ true → At symbols i s
   at i s h = is_same (symbol_at symbols i) s h
 
   -- ---- forms of next
@@ -47,11 +47,11 @@ module _ (symbols : List Symbol) where
   unfolding on_in
   on_read room i y e = needed _ _ y e λ a e1. paren_is symbols room i y (at i symbol.OpenParenthesis a) e1
 
-  FormIs : (room i : ℕ) → Form × ℕ → Type 0
+  abbrev pub FormIs : (room i : ℕ) → Form × ℕ → Type 0
   FormIs room i y = IsNextForm symbols room y.0.0 y.0.1 y.0.2 i y.1
 
   next_form : (room i : ℕ) (y : Form × ℕ) → At symbols i symbol.Next → next_at symbols i ≡ Some y → FormIs room i y
-  unfolding next_at FormIs
+  unfolding next_at
   next_form room i y a e =
       one_way (is_at symbols (i + 1) symbol.OpenBracket) (count_end symbols (i + 1) >>= λ j. Some ((None, Some (i + 2), None), j)) (Some ((None, None, None), i + 1)) y e
       (λ _ e1. bound (count_end symbols (i + 1)) (λ j. Some ((None, Some (i + 2), None), j)) y e1
@@ -62,7 +62,7 @@ module _ (symbols : List Symbol) where
       λ _ e1. given (FormIs room i) e1 (g.IsNextForm.next a)
 
   next_range_form : (room i : ℕ) (y : Form × ℕ) → At symbols i symbol.NextRange → next_range_at symbols i ≡ Some y → FormIs room i y
-  unfolding next_range_at FormIs
+  unfolding next_range_at
   next_range_form room i y a e =
       bound (range_end symbols (i + 1)) (λ j. Some ((None, Some (i + 2), Some (i + 4)), j)) y e
       λ j e2 e3. given (FormIs room i) e3
@@ -72,7 +72,7 @@ module _ (symbols : List Symbol) where
 
   event_form : (room i : ℕ) (on : RawExpr × ℕ) (y : Form × ℕ) → At symbols i symbol.Event → IsParen symbols room on.0 (i + 1) on.1
       → event_count_at symbols on ≡ Some y → FormIs room i y
-  unfolding event_count_at FormIs
+  unfolding event_count_at
   event_form room i on y a p e =
       one_way (is_at symbols on.1 symbol.OpenBracket) (count_end symbols on.1 >>= λ j. Some ((Some on.0, Some (on.1 + 1), None), j)) (Some ((Some on.0, None, None), on.1)) y e
       (λ _ e1. bound (count_end symbols on.1) (λ j. Some ((Some on.0, Some (on.1 + 1), None), j)) y e1
@@ -83,14 +83,14 @@ module _ (symbols : List Symbol) where
 
   event_range_form : (room i : ℕ) (on : RawExpr × ℕ) (y : Form × ℕ) → At symbols i symbol.EventRange → IsParen symbols room on.0 (i + 1) on.1
       → event_range_at symbols on ≡ Some y → FormIs room i y
-  unfolding event_range_at FormIs
+  unfolding event_range_at
   event_range_form room i on y a p e =
       bound (range_end symbols on.1) (λ j. Some ((Some on.0, Some (on.1 + 1), Some (on.1 + 3)), j)) y e
       λ j e2 e3. given (FormIs room i) e3
       (let c = range_read on.1 j e2 in
       subst (λ (n : ℕ). IsNextForm symbols room (Some on.0) (Some (on.1 + 1)) (Some (on.1 + 3)) i n) (sym c.1) (g.event_range a p c.0))
 
-  form_read : (room i : ℕ) (y : Form × ℕ) → form_in symbols room i ≡ Some y → FormIs room i y
+  pub form_read : (room i : ℕ) (y : Form × ℕ) → form_in symbols room i ≡ Some y → FormIs room i y
   unfolding form_in
   form_read room i y e =
       one_way _ _ _ y e (λ a e1. next_form room i y (at i symbol.Next a) e1)
@@ -125,7 +125,7 @@ module _ (symbols : List Symbol) where
   as_hdl room (bool e) i j h = g.hdl_bool h
   as_hdl room p i j h = h
 
-  tighter_read : (room : ℕ) (p : RawProp) (i m : ℕ) (y : RawProp × ℕ) → HdlIs room g.primary 0 p i m → tighter_of symbols room p m ≡ Some y
+  pub tighter_read : (room : ℕ) (p : RawProp) (i m : ℕ) (y : RawProp × ℕ) → HdlIs room g.primary 0 p i m → tighter_of symbols room p m ≡ Some y
       → Hdl room g.factor 7 i y
   unfolding tighter_of
   tighter_read room (bool e) i m y h t =
@@ -133,22 +133,22 @@ module _ (symbols : List Symbol) where
       λ x e1 e2. given (Hdl room g.factor 7 i) e2 (levels_are symbols room 7 i (e, m) x (lit≤ tt) h e1)
   tighter_read room p i m y h t = given (Hdl room g.factor 7 i) t (g.factor_primary h)
 
-  factor_both : (room : ℕ) (p : RawProp) (i j : ℕ) → HdlIs room g.factor 7 p i j → HdlIs room g.both 8 p i j
+  pub factor_both : (room : ℕ) (p : RawProp) (i j : ℕ) → HdlIs room g.factor 7 p i j → HdlIs room g.both 8 p i j
   factor_both room (bool e) i j h = looser h
   factor_both room p i j h = g.both_factor h
 
-  both_either : (room : ℕ) (p : RawProp) (i j : ℕ) → HdlIs room g.both 8 p i j → HdlIs room g.either 9 p i j
+  pub both_either : (room : ℕ) (p : RawProp) (i j : ℕ) → HdlIs room g.both 8 p i j → HdlIs room g.either 9 p i j
   both_either room (bool e) i j h = looser h
   both_either room p i j h = g.either_both h
 
-  and_case : (room : ℕ) (p q : RawProp) (i m j : ℕ) → HdlIs room g.both 8 p i m → At symbols m symbol.AndAnd → HdlIs room g.factor 7 q (m + 1) j
+  pub and_case : (room : ℕ) (p q : RawProp) (i m j : ℕ) → HdlIs room g.both 8 p i m → At symbols m symbol.AndAnd → HdlIs room g.factor 7 q (m + 1) j
       → HdlIs room g.both 8 (combination m p q) i j
   and_case room (bool d) (bool e) i m j h a k = joined (lit< tt) h (rw a refl) k
   and_case room (bool d) q i m j h a k = g.both_and (g.both_bool h) a k refl
   and_case room p (bool e) i m j h a k = g.both_and h a (g.factor_bool k) refl
   and_case room p q i m j h a k = g.both_and h a k refl
 
-  or_case : (room : ℕ) (p q : RawProp) (i m j : ℕ) → HdlIs room g.either 9 p i m → At symbols m symbol.OrOr → HdlIs room g.both 8 q (m + 1) j
+  pub or_case : (room : ℕ) (p q : RawProp) (i m j : ℕ) → HdlIs room g.either 9 p i m → At symbols m symbol.OrOr → HdlIs room g.both 8 q (m + 1) j
       → HdlIs room g.either 9 (combination m p q) i j
   or_case room (bool d) (bool e) i m j h a k = joined (lit< tt) h (rw a refl) k
   or_case room (bool d) q i m j h a k = g.either_or (g.either_bool h) a k refl
@@ -210,11 +210,11 @@ module _ (symbols : List Symbol) where
           [ inl a ↦ times_plain (symbol_at symbols m) a | inr b ↦ pick_plain (symbol_at symbols m) b ] in
       omega (arith, z)
 
-  LowIs : (room i : ℕ) → RawProp × ℕ → Type 0
+  abbrev LowIs : (room i : ℕ) → RawProp × ℕ → Type 0
   LowIs room i y = IsProp symbols room g.low y.0 i y.1
 
   marked_timed : (room i : ℕ) (s : RawSere × ℕ) (y : RawProp × ℕ) → IsTimed symbols room false s.0 i s.1 → Repeated s → marked symbols s ≡ Some y → LowIs room i y
-  unfolding marked LowIs
+  unfolding marked
   marked_timed room i s y t (r, mark, low, high, same) e =
       let timed : IsTimed symbols room false (sere.repeat r mark low high) i s.1 = subst (λ (x : RawSere). IsTimed symbols room false x i s.1) same t in
       one_way _ _ _ y e
@@ -222,7 +222,7 @@ module _ (symbols : List Symbol) where
       λ _ e1. given (LowIs room i) e1 (subst (λ (x : RawSere). IsProp symbols room g.low (seq x false) i s.1) (sym same) (g.low_timed timed))
 
   times_read : (room : ℕ) (p : RawProp) (i m : ℕ) (y : RawProp × ℕ) → HdlIs room g.hdl 10 p i m → times_of symbols p m ≡ Some y → LowIs room i y
-  unfolding times_of LowIs
+  unfolding times_of
   times_read room (bool e) i m y h t =
       one_way (is_rep (symbol_at symbols m)) (after_bool symbols (e, m) >>= marked symbols) (Some (bool e, m)) y t
       (λ rep e1. bound (after_bool symbols (e, m)) (marked symbols) y e1
@@ -230,18 +230,18 @@ module _ (symbols : List Symbol) where
       λ _ e1. given (LowIs room i) e1 (g.low_hdl (g.hdl_bool h))
   times_read room p i m y h t = given (LowIs room i) t (g.low_hdl h)
 
-  AbtIs : (room i : ℕ) → RawProp × ℕ → Type 0
+  abbrev pub AbtIs : (room i : ℕ) → RawProp × ℕ → Type 0
   AbtIs room i y = IsProp symbols room g.abt y.0 i y.1
 
   aborts_read : (room i : ℕ) (x y : RawProp × ℕ) → LowIs room i x → aborts_from symbols room x ≡ Some y → AbtIs room i y
-  unfolding aborts_from abort_with LowIs AbtIs
+  unfolding aborts_from abort_with
   aborts_read room i x y p e =
       loop_reads (goes_at symbols symbol.Abort) (abort_with symbols room) (AbtIs room i)
       (λ a b more pa step. bound (bool_in symbols room false (a.1 + 1)) (λ e. Some (abort a.0 e.0, e.1)) b step
       λ r e1 e2. given (AbtIs room i) e2 (g.abt_abort pa (at a.1 symbol.Abort more) (bool_read symbols room false (a.1 + 1) r e1)))
       (suc (length symbols)) x y (g.abt_low p) e
 
-  settled_read : (room i : ℕ) (x y : RawProp × ℕ) → HdlIs room g.either 9 x.0 i x.1 → settled symbols room x ≡ Some y → AbtIs room i y
+  pub settled_read : (room i : ℕ) (x y : RawProp × ℕ) → HdlIs room g.either 9 x.0 i x.1 → settled symbols room x ≡ Some y → AbtIs room i y
   unfolding settled
   settled_read room i x y p e =
       bound _ _ y e λ a e1 e2. bound _ _ y e2

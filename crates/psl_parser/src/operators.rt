@@ -1,13 +1,13 @@
 //! What goes on with a phrase that was read and holds no property.
 
-ghost use Rattle.std.specs.Prelude.{◌≡◌, ◌<◌, ◌≤◌, ◌+◌, suc, true, false, length, IfOk};
+ghost use Rattle.std.specs.Prelude.{option_map, ◌≡◌, ◌<◌, ◌≤◌, ◌+◌, suc, true, false, length, IfOk};
 ghost use Rattle.psl_grammar.specs.Symbols.{symbol_at};
 ghost use Rattle.psl_grammar.specs.RawProp as raw;
 ghost use Rattle.psl_grammar.specs.View.{expr_of, sere_of, prop_of};
 ghost use Rattle.psl_parser.specs.inner.Answers.{Gives};
 ghost use Rattle.psl_parser.specs.inner.ReadViews.{prop_read};
 ghost use Rattle.psl_parser.specs.inner.Steps.{is_at, loop};
-ghost use Rattle.psl_parser.specs.inner.PropReaders.{negation, combination, is_rep, goes_at, marked, tighter_of, branches_of, times_of, abort_with, aborts_from, settled};
+ghost use Rattle.psl_parser.specs.inner.PropReaders.{sequence_of, negation, combination, is_rep, goes_at, marked, tighter_of, branches_of, times_of, abort_with, aborts_from, settled};
 
 use crate::errors::ParseError;
 use crate::expressions::{read_bool, read_branches, read_levels};
@@ -16,6 +16,19 @@ use crate::symbols::{is_at, is_rep, symbol_at};
 use crate::trees::{aborted, binary, combined, prefixed, unary};
 use psl_grammar::{RawProp, RawSere, Symbol};
 use std::alloc::{AllocError, Global};
+
+/// A sequence without `!`.
+pub fn as_sequence(prop: RawProp) -> Option<RawSere>
+    ensures { sequence_of (prop_of prop) ≡ option_map sere_of result }
+{
+    match prop {
+        RawProp::Seq {
+            body,
+            strong: false,
+        } => Some(body),
+        _ => None,
+    }
+}
 
 /// `!` before a phrase.
 pub fn negate(alloc: Global, mark: u32, body: RawProp) -> Result<RawProp, AllocError>

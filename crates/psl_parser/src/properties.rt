@@ -15,7 +15,7 @@ use crate::bodies::Body;
 use crate::errors::ParseError;
 use crate::expressions::read_operand;
 use crate::next_forms::{is_next, read_form};
-use crate::operators::{combine, negate, read_marked, read_settled, read_tighter};
+use crate::operators::{as_sequence, combine, negate, read_marked, read_settled, read_tighter};
 use crate::sequences::read_tight;
 use crate::symbols::{begins_sequence, is_at, symbol_at};
 use crate::trees::{combined, later, prefixed, suffixed};
@@ -360,9 +360,24 @@ fn read_suffix(alloc: Global, symbols: &[Symbol], room: u32, left: RawProp, mark
     if is_at(symbols, mark - 1, Symbol::CloseParenthesis) {
         return Err(ParseError::Syntax { token: mark });
     }
-    match left {
-        RawProp::Seq { body, strong: false } => read_suffix_body(alloc, symbols, room, body, mark),
-        _ => Err(ParseError::Syntax { token: mark }),
+    read_suffix_of(alloc, symbols, room, left, mark)
+}
+
+/// The property behind what must be a sequence.
+#[cycle(prop)]
+#[tactic(auto, using(crate::proofs::Loops::stopped))]
+fn read_suffix_of(alloc: Global, symbols: &[Symbol], room: u32, left: RawProp, mark: u32) -> Result<(RawProp, u32), ParseError>
+    requires few { length symbols.now ≤ 1048576 }
+    requires within { mark ≤ length symbols.now }
+    requires room { room ≤ 64 }
+    requires begun { mark < length symbols.now }
+    ensures gives { Gives prop_read result (suffix_of symbols.now (prop_at symbols.now room) room (prop_of left) mark) }
+    ensures some { IfOk result (λ read. mark < read.1) }
+    ensures end { IfOk result (λ read. read.1 ≤ length symbols.now) }
+{
+    match as_sequence(left) {
+        Some(sere) => read_suffix_body(alloc, symbols, room, sere, mark),
+        None => Err(ParseError::Syntax { token: mark }),
     }
 }
 

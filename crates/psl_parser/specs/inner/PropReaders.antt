@@ -27,6 +27,11 @@ combination mark p q = binary mark p q
 abbrev pub is_rep : Symbol → Bool
 is_rep s = is_times s || is_pick s
 
+-- a sequence without `!`
+abbrev pub sequence_of : RawProp → Option RawSere
+sequence_of (seq s false) = Some s
+sequence_of _ = None
+
 abbrev pub as_bool : RawExpr × ℕ → Read RawProp
 as_bool e = Some (bool e.0, e.1)
 

@@ -60,23 +60,26 @@ decreases-read_untl l = l.room * 64 + 14
 abbrev pub decreases-read_suffix_body : goal.decreases-read_suffix_body
 decreases-read_suffix_body l = l.room * 64 + 15
 
+abbrev pub decreases-read_suffix_of : goal.decreases-read_suffix_of
+decreases-read_suffix_of l = l.room * 64 + 16
+
 abbrev pub decreases-read_suffix : goal.decreases-read_suffix
-decreases-read_suffix l = l.room * 64 + 16
+decreases-read_suffix l = l.room * 64 + 17
 
 abbrev pub decreases-read_suff : goal.decreases-read_suff
-decreases-read_suff l = l.room * 64 + 17
+decreases-read_suff l = l.room * 64 + 18
 
 abbrev pub decreases-read_implied : goal.decreases-read_implied
-decreases-read_implied l = l.room * 64 + 18
+decreases-read_implied l = l.room * 64 + 19
 
 abbrev pub decreases-read_impl : goal.decreases-read_impl
-decreases-read_impl l = l.room * 64 + 19
+decreases-read_impl l = l.room * 64 + 20
 
 abbrev pub decreases-read_always : goal.decreases-read_always
-decreases-read_always l = l.room * 64 + 20
+decreases-read_always l = l.room * 64 + 21
 
 abbrev pub decreases-read_prop : goal.decreases-read_prop
-decreases-read_prop l = l.room * 64 + 21
+decreases-read_prop l = l.room * 64 + 22
 
 abbrev pub invariant-read_ands-joins : goal.invariant-read_ands-joins
 invariant-read_ands-joins l =
