@@ -8,4 +8,5 @@ pub mod Symbols
 pub mod ExprGrammar
 pub mod SereGrammar
 pub mod PropGrammar
+pub mod ItemGrammar
 pub mod inner

@@ -11,3 +11,5 @@ pub mod PropReads
 pub mod PropSound
 pub mod PropFacts
 pub mod PropSpells
+pub mod ItemReads
+pub mod ItemSpells

@@ -29,14 +29,14 @@ module _ (symbols : List Symbol) where
 
   -- ---- forms of next
 
-  count_read : (i y : ℕ) → count_end symbols i ≡ Some y → IsCount symbols i × (y ≡ i + 3)
+  pub count_read : (i y : ℕ) → count_end symbols i ≡ Some y → IsCount symbols i × (y ≡ i + 3)
   unfolding count_end
   count_read i y e =
       needed _ _ y e λ a e1. needed _ _ y e1 λ b e2. needed _ _ y e2
       λ c e3. given (λ (z : ℕ). IsCount symbols i × (z ≡ i + 3)) e3
       (record { opens = at i symbol.OpenBracket a; number = at (i + 1) symbol.Number b; closes = at (i + 2) symbol.CloseBracket c }, refl)
 
-  range_read : (i y : ℕ) → range_end symbols i ≡ Some y → IsRange symbols i × (y ≡ i + 5)
+  pub range_read : (i y : ℕ) → range_end symbols i ≡ Some y → IsRange symbols i × (y ≡ i + 5)
   unfolding range_end
   range_read i y e =
       needed _ _ y e λ a e1. needed _ _ y e1 λ b e2. needed _ _ y e2 λ c e3. needed _ _ y e3 λ d e4. needed _ _ y e4

@@ -48,7 +48,7 @@ module _ (symbols : List Symbol) where
   unfolding count_end
   count_spelled i c = has _ _ _ (at symbols i symbol.OpenBracket c.opens) (has _ _ _ (at symbols (i + 1) symbol.Number c.number) (has _ _ _ (at symbols (i + 2) symbol.CloseBracket c.closes) refl))
 
-  range_spelled : (i : ℕ) → IsRange symbols i → range_end symbols i ≡ Some (i + 5)
+  pub range_spelled : (i : ℕ) → IsRange symbols i → range_end symbols i ≡ Some (i + 5)
   unfolding range_end
   range_spelled i c =
       has _ _ _ (at symbols i symbol.OpenBracket c.opens) (has _ _ _ (at symbols (i + 1) symbol.Number c.low)

@@ -4,6 +4,7 @@ pub mod ExprReaders
 pub mod SereReaders
 pub mod FormReaders
 pub mod PropReaders
+pub mod ItemReaders
 pub mod Bodies
 pub mod ReadViews
 pub mod Answers
