@@ -19,7 +19,9 @@ use Rattle.psl_parser.specs.inner.ItemReaders.{name_here, comma_at, name_after, 
 use Rattle.psl_parser.proofs.Tests.{there, is_other}
 use Rattle.psl_parser.proofs.Loops.{Turns, begins, stops, turns}
 use Rattle.psl_parser.proofs.ExprSpells.{this_way, that_way, has, then, at}
-use Rattle.psl_parser.proofs.PropFacts.{follow, apart, seq_end, range_within}
+use Rattle.psl_parser.proofs.PropFacts.{follow, apart, seq_end, range_within, prop_some}
+use Rattle.psl_parser.proofs.SereFacts.{timed_bounds, sere_bounds}
+use Rattle.psl_grammar.specs.SereGrammar as seres
 use Rattle.psl_parser.proofs.PropSpells.{range_spelled, prop_spelled, seq_spelled}
 
 module _ (symbols : List Symbol) where
@@ -191,3 +193,54 @@ module _ (symbols : List Symbol) where
   item_spelled (g.IsItem.property {i = i} {j = j} a n b p c) = is_property i _ a (property_spelled i j n b p c)
   item_spelled (g.assert {i = i} {m = m} {j = j} a p r) = is_assert i _ a (assert_spelled (i + 1) m j i None p r)
   item_spelled (g.labelled {i = i} {m = m} {j = j} n a b p r) = is_labelled i _ n (labelled_spelled i m j n a b p r)
+
+  -- ---- where an item begins and ends
+
+  names_some : {names : List ℕ} {i j : ℕ} → AreNames symbols names i j → i < j
+  names_some (one h) = omega arith
+  names_some (more p a h) = let l = names_some p in omega arith
+
+  seq_some : {s : RawSere} {i j : ℕ} → IsSeq symbols 64 s i j → i < j
+  seq_some (seres.tight p) = (sere_bounds symbols p).0
+  seq_some (seres.IsSeq.timed p) = (timed_bounds symbols p).0
+
+  report_some : {report : Option ℕ} {i j : ℕ} → IsReport symbols report i j → i < j
+  report_some (none a) = omega arith
+  report_some (some a b c) = omega arith
+
+  report_within : {report : Option ℕ} {i j : ℕ} → IsReport symbols report i j → j ≤ length symbols
+  report_within (none {i = i} a) = let l = there symbols i symbol.Semicolon a (λ p. cc) in omega arith
+  report_within (some {i = i} a b c) = let l = there symbols (i + 2) symbol.Semicolon c (λ p. cc) in omega arith
+
+  closed_within : (j : ℕ) → At symbols j symbol.Semicolon → j + 1 ≤ length symbols
+  closed_within j a = let l = there symbols j symbol.Semicolon a (λ p. cc) in omega arith
+
+  pub item_some : {item : RawItem} {i j : ℕ} → IsItem symbols item i j → i < j
+  item_some (g.clock a b c d n e) = omega arith
+  item_some (g.clock_parens a b c d e n f h) = omega arith
+  item_some (g.wire a p b) = let l = names_some p in omega arith
+  item_some (g.vector a r p b) = let l = names_some p in omega arith
+  item_some (g.IsItem.sequence a n b p c) = let l = seq_some p in omega arith
+  item_some (g.IsItem.property a n b p c) = let l = prop_some symbols p in omega arith
+  item_some (g.assert a p r) = let l = prop_some symbols p in let k = report_some r in omega arith
+  item_some (g.labelled n a b p r) = let l = prop_some symbols p in let k = report_some r in omega arith
+
+  pub item_within : {item : RawItem} {i j : ℕ} → IsItem symbols item i j → j ≤ length symbols
+  item_within (g.clock {i = i} a b c d n e) = let l = closed_within (i + 5) e in omega arith
+  item_within (g.clock_parens {i = i} a b c d e n f h) = let l = closed_within (i + 7) h in omega arith
+  item_within (g.wire {j = j} a p b) = closed_within j b
+  item_within (g.vector {j = j} a r p b) = closed_within j b
+  item_within (g.IsItem.sequence {j = j} a n b p c) = closed_within j c
+  item_within (g.IsItem.property {j = j} a n b p c) = closed_within j c
+  item_within (g.assert a p r) = report_within r
+  item_within (g.labelled n a b p r) = report_within r
+
+  pub item_starts : {item : RawItem} {i j : ℕ} → IsItem symbols item i j → is_at symbols i symbol.CloseBrace ≡ false
+  item_starts (g.clock {i = i} a b c d n e) = other i symbol.Default symbol.CloseBrace a (λ e. cc)
+  item_starts (g.clock_parens {i = i} a b c d e n f h) = other i symbol.Default symbol.CloseBrace a (λ e. cc)
+  item_starts (g.wire {i = i} a p b) = other i symbol.Wire symbol.CloseBrace a (λ e. cc)
+  item_starts (g.vector {i = i} a r p b) = other i symbol.Wire symbol.CloseBrace a (λ e. cc)
+  item_starts (g.IsItem.sequence {i = i} a n b p c) = other i symbol.Sequence symbol.CloseBrace a (λ e. cc)
+  item_starts (g.IsItem.property {i = i} a n b p c) = other i symbol.Property symbol.CloseBrace a (λ e. cc)
+  item_starts (g.assert {i = i} a p r) = other i symbol.Assert symbol.CloseBrace a (λ e. cc)
+  item_starts (g.labelled {i = i} n a b p r) = name_other i symbol.CloseBrace n refl

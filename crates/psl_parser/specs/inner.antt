@@ -5,6 +5,7 @@ pub mod SereReaders
 pub mod FormReaders
 pub mod PropReaders
 pub mod ItemReaders
+pub mod UnitReaders
 pub mod Bodies
 pub mod ReadViews
 pub mod Answers

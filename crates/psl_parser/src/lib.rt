@@ -4,6 +4,7 @@
 mod bodies;
 mod errors;
 mod expressions;
+mod items;
 mod next_forms;
 mod operators;
 mod properties;

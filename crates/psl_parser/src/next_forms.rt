@@ -52,7 +52,7 @@ fn read_count(symbols: &[Symbol], from: u32) -> Result<u32, ParseError>
 
 /// A range in brackets; gives its end.
 #[tactic(auto, using(crate::proofs::Loops::stopped), unfolding(crate::specs::inner::FormReaders::range_end))]
-fn read_range(symbols: &[Symbol], from: u32) -> Result<u32, ParseError>
+pub fn read_range(symbols: &[Symbol], from: u32) -> Result<u32, ParseError>
     requires few { length symbols.now ≤ 1048576 }
     requires within { from ≤ length symbols.now }
     ensures gives { Gives itself result (range_end symbols.now from) }

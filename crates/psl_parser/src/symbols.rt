@@ -1,7 +1,7 @@
 //! The symbol at a place, and what it does in a phrase.
 
 ghost use Rattle.std.specs.Prelude.{◌≡◌, ◌<◌, ◌+◌, ◌^◌};
-ghost use Rattle.psl_grammar.specs.Symbols.{symbol_at, after_level, level_at, may_join, begins_sequence, is_prefix, is_literal, sere_level, is_pick, is_high};
+ghost use Rattle.psl_grammar.specs.Symbols.{symbol_at, after_level, level_at, may_join, begins_sequence, is_prefix, is_literal, is_name, sere_level, is_pick, is_high};
 ghost use Rattle.psl_parser.specs.inner.Steps.{is_at};
 ghost use Rattle.psl_parser.specs.inner.SereReaders.{is_times};
 ghost use Rattle.psl_parser.specs.inner.PropReaders.{is_rep};
@@ -55,6 +55,16 @@ pub fn is_literal(symbol: Symbol) -> bool
     ensures { result ≡ is_literal symbol }
 {
     matches!(symbol, Symbol::Number | Symbol::Literal)
+}
+
+/// A name in the places where any name may stand.
+pub fn is_name(symbol: Symbol) -> bool
+    ensures { result ≡ is_name symbol }
+{
+    matches!(
+        symbol,
+        Symbol::Name | Symbol::SequenceName | Symbol::PropertyName
+    )
 }
 
 fn may_join(symbol: Symbol) -> bool

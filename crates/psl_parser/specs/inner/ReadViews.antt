@@ -1,11 +1,15 @@
 -- What was read, as plain trees.
-use Rattle.std.specs.Prelude.{ℕ, Option, Some, None}
+use Rattle.std.specs.Prelude.{ℕ, List, Option, Some, None, Vec}
+use Rattle.std.specs.declared.alloc.Global.{Global}
 use Rattle.psl_grammar.specs.RawExpr as e
 use Rattle.psl_grammar.specs.RawSere as s
 use Rattle.psl_grammar.specs.RawProp as p
 use Rattle.psl_grammar.specs.View.{expr_of, sere_of, prop_of}
 use Rattle.psl_grammar.specs.declared.properties.RawProp.{RawProp}
 use Rattle.psl_grammar.specs.declared.sequences.RawSere as code
+use Rattle.psl_grammar.specs.RawUnit as u
+use Rattle.psl_grammar.specs.UnitView.{item_of}
+use Rattle.psl_grammar.specs.declared.items.RawItem.{RawItem}
 use Rattle.psl_parser.specs.declared.next_forms.NextForm.{NextForm}
 use Rattle.psl_parser.specs.inner.FormReaders.{Form}
 use Rattle.psl_grammar.specs.declared.expressions.RawExpr.{RawExpr}
@@ -31,3 +35,12 @@ form_read x = (form_of x.0, x.1)
 
 abbrev pub itself : {A : Type 0} → A → A
 itself x = x
+
+abbrev pub item_read : RawItem × ℕ → u.RawItem × ℕ
+item_read x = (item_of x.0, x.1)
+
+abbrev pub list_read : Vec ℕ Global × ℕ → List ℕ × ℕ
+list_read x = (x.0.items, x.1)
+
+abbrev pub names_read : List ℕ × ℕ → List ℕ × ℕ
+names_read x = x
