@@ -13,3 +13,5 @@ pub mod PropFacts
 pub mod PropSpells
 pub mod ItemReads
 pub mod ItemSpells
+pub mod Learning
+pub mod UnitReads

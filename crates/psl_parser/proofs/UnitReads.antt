@@ -3,7 +3,10 @@ use Rattle.std.proofs.Common.{◌≡◌, ℕ, zero, suc, ◌+◌, ◌<◌, ◌�
 use Rattle.std.proofs.lemmas.Bool.{eq-eqb, eqb-true}
 use Rattle.std.proofs.lemmas.Bool.Decides.{nat_tests}
 use Rattle.std.proofs.lemmas.List.{length-map}
-use Rattle.std.specs.Prelude.{nat_eq, nat_le}
+use Rattle.std.specs.Prelude.{nat_eq, nat_le, Result, Ok, Err, IfOk, MatchResult}
+use Rattle.psl_parser.specs.declared.errors.ParseError.{ParseError}
+use Rattle.psl_parser.specs.declared.errors.ParseError.TheVariants.{Syntax, TooDeep, OutOfMemory}
+use Rattle.psl_parser.specs.inner.Answers.{Gives}
 use Rattle.psl_lexer.specs.declared.kinds.Token.{Token}
 use Rattle.psl_lexer.specs.declared.kinds.Kind.{Kind}
 use Rattle.psl_lexer.specs.declared.kinds.Kind.TheVariants as kind
@@ -18,7 +21,7 @@ use Rattle.psl_parser.specs.Units.{Known, kind_symbol, meaning_of, bytes_of, sym
 use Rattle.psl_parser.specs.Units as units
 use Rattle.psl_parser.specs.inner.Steps.{◌>>=◌, need, either_way, is_at, Read}
 use Rattle.psl_parser.specs.inner.ItemReaders.{name_here, is_short, item_at}
-use Rattle.psl_parser.specs.inner.UnitReaders.{short_item, items_from, items_at, unit_end, bound_unit, unit_read}
+use Rattle.psl_parser.specs.inner.UnitReaders.{short_at, short_item, items_from, items_at, unit_end, bound_unit, unit_read}
 use Rattle.psl_parser.proofs.Tests.{is_same, is_self, is_other, bound, needed, one_way, given, there}
 use Rattle.psl_parser.proofs.ExprSpells.{this_way, that_way, has, then, at}
 use Rattle.psl_parser.proofs.ItemReads.{item_read}
@@ -67,7 +70,7 @@ module _ (text : List ℕ) (tokens : List Token) where
 
   items_read : (n : ℕ) (known : Known) (items : List RawItem) (i m : ℕ) (y : List RawItem × ℕ) → AreItems text tokens known items i m
       → items_from text tokens n known items m ≡ Some y → Items i y
-  unfolding items_from short_item
+  unfolding items_from short_at
   items_read zero known items i m y p e = absurd (cc)
   items_read (suc n) known items i m y p e =
       one_way (is_at (outside text tokens) m symbol.CloseBrace) (Some (items, m))
@@ -111,7 +114,7 @@ module _ (text : List ℕ) (tokens : List Token) where
 
   short_spelled : {item : RawItem} (known : Known) (m j : ℕ) → IsItem (symbols_in text known tokens) item m j → IsShort item m j
       → short_item text tokens known m ≡ Some (item, j)
-  unfolding short_item
+  unfolding short_at
   short_spelled {item = item} known m j p s =
       then (item_at (symbols_in text known tokens) m) (λ z. need (is_short z.0 m z.1) (Some z)) (item, j) _ (item_spelled (symbols_in text known tokens) p)
       (has _ _ _ (is_short_of item m j s) refl)
@@ -198,3 +201,25 @@ module _ (text : List ℕ) (tokens : List Token) where
     where
       same_some : Some a ≡ Some b → a ≡ b
       same_some e = cc
+
+  -- what an answer that gives what is read says of units
+  pub answer_unit : {A : Type 0} (view : A → RawUnit) (r : Result A ParseError) → Gives view r (unit_read text tokens)
+      → IfOk r (λ u. IsUnit text tokens (view u))
+  answer_unit view (Ok u) h = unit_is (view u) h
+  answer_unit view (Err e) h = tt
+
+  pub answer_only : {A : Type 0} (view : A → RawUnit) (r : Result A ParseError) → Gives view r (unit_read text tokens)
+      → (unit : RawUnit) → IsUnit text tokens unit → MatchResult r (λ u. view u ≡ unit) (λ e. e ≡ OutOfMemory)
+  answer_only view (Ok u) h unit p = same_unit (view u) unit (sym h ∙ unit_spelled p)
+    where
+      same_unit : (a b : RawUnit) → Some a ≡ Some b → a ≡ b
+      same_unit a b e = cc
+  answer_only view (Err (Syntax t)) h unit p = absurd (no_unit unit (sym h ∙ unit_spelled p))
+    where
+      no_unit : (b : RawUnit) → None ≡ Some b → ⊥
+      no_unit b e = cc
+  answer_only view (Err (TooDeep t)) h unit p = absurd (no_unit unit (sym h ∙ unit_spelled p))
+    where
+      no_unit : (b : RawUnit) → None ≡ Some b → ⊥
+      no_unit b e = cc
+  answer_only view (Err OutOfMemory) h unit p = refl

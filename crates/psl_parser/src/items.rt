@@ -19,7 +19,7 @@ use std::alloc::Global;
 /// In how many open phrases a token of an item may stand.
 const OPEN_PHRASES: u32 = 64;
 
-fn name_here(symbols: &[Symbol], place: u32) -> bool
+pub fn name_here(symbols: &[Symbol], place: u32) -> bool
     ensures { result ≡ name_here symbols.now place }
 {
     is_name(symbol_at(symbols, place))

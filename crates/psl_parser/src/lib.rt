@@ -2,6 +2,7 @@
 #![tactic(auto)]
 
 mod bodies;
+mod classes;
 mod errors;
 mod expressions;
 mod items;
@@ -11,5 +12,7 @@ mod properties;
 mod sequences;
 mod symbols;
 mod trees;
+mod units;
 
 pub use errors::ParseError;
+pub use units::parse_unit;

@@ -1,5 +1,5 @@
 -- What was read, as plain trees.
-use Rattle.std.specs.Prelude.{ℕ, List, Option, Some, None, Vec}
+use Rattle.std.specs.Prelude.{ℕ, List, Option, Some, None, Vec, map}
 use Rattle.std.specs.declared.alloc.Global.{Global}
 use Rattle.psl_grammar.specs.RawExpr as e
 use Rattle.psl_grammar.specs.RawSere as s
@@ -44,3 +44,6 @@ list_read x = (x.0.items, x.1)
 
 abbrev pub names_read : List ℕ × ℕ → List ℕ × ℕ
 names_read x = x
+
+abbrev pub items_read : Vec RawItem Global × ℕ → List u.RawItem × ℕ
+items_read x = (map item_of x.0.items, x.1)

@@ -1,16 +1,21 @@
 -- What is read of the items of a unit, and of the unit.
 use Rattle.std.specs.Prelude.{ℕ, zero, suc, ◌+◌, nat_eq, List, [], ◌∷◌, ◌++◌, length, Option, Some, None}
 use Rattle.psl_lexer.specs.declared.kinds.Token.{Token}
+use Rattle.psl_grammar.specs.declared.symbols.Symbol.{Symbol}
 use Rattle.psl_grammar.specs.declared.symbols.Symbol.TheVariants as symbol
 use Rattle.psl_grammar.specs.RawUnit.{RawItem, RawUnit}
 use Rattle.psl_parser.specs.Units.{Known, symbols_in, known_after, outside}
 use Rattle.psl_parser.specs.inner.Steps.{◌>>=◌, need, either_way, is_at, Read}
 use Rattle.psl_parser.specs.inner.ItemReaders.{name_here, is_short, item_at}
 
+-- an item that is as short as one must be
+unfoldable pub short_at : List Symbol → ℕ → Read RawItem
+short_at symbols m = item_at symbols m >>= λ x. need (is_short x.0 m x.1) (Some x)
+
 module _ (text : List ℕ) (tokens : List Token) where
-  -- an item that is as short as one must be
-  unfoldable pub short_item : Known → ℕ → Read RawItem
-  short_item known m = item_at (symbols_in text known tokens) m >>= λ x. need (is_short x.0 m x.1) (Some x)
+  -- the same, behind items that make these names known
+  abbrev pub short_item : Known → ℕ → Read RawItem
+  short_item known m = short_at (symbols_in text known tokens) m
 
   -- items behind those that were read
   unfoldable pub items_from : ℕ → Known → List RawItem → ℕ → Read (List RawItem)
