@@ -6,7 +6,7 @@ use Rattle.std.proofs.lemmas.List.{length-map}
 use Rattle.std.specs.Prelude.{nat_eq, nat_le, Result, Ok, Err, IfOk, MatchResult}
 use Rattle.psl_parser.specs.declared.errors.ParseError.{ParseError}
 use Rattle.psl_parser.specs.declared.errors.ParseError.TheVariants.{Syntax, TooDeep, OutOfMemory}
-use Rattle.psl_parser.specs.inner.Answers.{Gives}
+use Rattle.psl_parser.specs.inner.Answers.{Gives, Halts}
 use Rattle.psl_lexer.specs.declared.kinds.Token.{Token}
 use Rattle.psl_lexer.specs.declared.kinds.Kind.{Kind}
 use Rattle.psl_lexer.specs.declared.kinds.Kind.TheVariants as kind
@@ -223,3 +223,19 @@ module _ (text : List ℕ) (tokens : List Token) where
       no_unit : (b : RawUnit) → None ≡ Some b → ⊥
       no_unit b e = cc
   answer_only view (Err OutOfMemory) h unit p = refl
+
+  pub way_halts : (error : ParseError) (i : ℕ) (known : Known) (items : List RawItem) (m : ℕ) → Way i known items m → m ≤ length tokens
+      → is_at (outside text tokens) m symbol.CloseBrace ≡ false → Halts error (short_item text tokens known m) → Halts error (items_at text tokens i)
+  way_halts (Syntax t) i known items m w within open_brace s = way_fails i known items m w within open_brace s
+  way_halts (TooDeep t) i known items m w within open_brace s = way_fails i known items m w within open_brace s
+  way_halts OutOfMemory i known items m w within open_brace s = tt
+
+  pub way_ends : (i : ℕ) (known : Known) (items : List RawItem) (m : ℕ) → Way i known items m
+      → is_at (outside text tokens) m symbol.CloseBrace ≡ true → items_at text tokens i ≡ Some (items, m)
+  way_ends i known items m w close =
+      let lt = there (outside text tokens) m symbol.CloseBrace (here m symbol.CloseBrace close) (λ e. cc) in
+      let long : length (outside text tokens) ≡ length tokens = simp length-map in
+      way_stops i known items m w (omega arith) close
+
+  pub long_symbols : (known : Known) (symbols : List Symbol) → symbols ≡ symbols_in text known tokens → length symbols ≡ length tokens
+  long_symbols known symbols same = let long : length (symbols_in text known tokens) ≡ length tokens = simp length-map in ap length same ∙ long

@@ -125,13 +125,13 @@ fn read_items(
     alloc: Global,
     text: &[u8],
     tokens: &[Token],
-    outside: &[Symbol],
+    plain: &[Symbol],
     from: u32,
 ) -> Result<(Vec<RawItem>, u32), ParseError>
     requires few { length tokens.now ≤ 1048576 }
     requires within { All (LiesWithin text.now) tokens.now }
     requires place { from ≤ length tokens.now }
-    requires outside { outside.now ≡ outside text.now tokens.now }
+    requires plain { plain.now ≡ outside text.now tokens.now }
     ensures gives { Gives items_read result (items_at text.now tokens.now from) }
     ensures end { IfOk result (λ read. read.1 ≤ length tokens.now) }
 {
@@ -141,7 +141,7 @@ fn read_items(
     };
     let mut items = Vec::new(alloc);
     let mut to = from;
-    'items: while !is_at(outside, to, Symbol::CloseBrace) {
+    'items: while !is_at(plain, to, Symbol::CloseBrace) {
         match read_step(alloc, text, tokens, symbols, to) {
             Err(error) => return Err(error),
             Ok((item, next, after)) => {
@@ -178,26 +178,26 @@ fn read_bound(
     alloc: Global,
     text: &[u8],
     tokens: &[Token],
-    outside: &[Symbol],
+    plain: &[Symbol],
 ) -> Result<RawUnit, ParseError>
     requires few { length tokens.now ≤ 1048576 }
     requires within { All (LiesWithin text.now) tokens.now }
-    requires outside { outside.now ≡ outside text.now tokens.now }
+    requires plain { plain.now ≡ outside text.now tokens.now }
     ensures gives { Gives unit_of result (bound_unit text.now tokens.now) }
 {
-    if !is_at(outside, 2, Symbol::OpenParenthesis) {
+    if !is_at(plain, 2, Symbol::OpenParenthesis) {
         return Err(ParseError::Syntax { token: 2 });
     }
-    if !name_here(outside, 3) {
+    if !name_here(plain, 3) {
         return Err(ParseError::Syntax { token: 3 });
     }
-    if !is_at(outside, 4, Symbol::CloseParenthesis) {
+    if !is_at(plain, 4, Symbol::CloseParenthesis) {
         return Err(ParseError::Syntax { token: 4 });
     }
-    if !is_at(outside, 5, Symbol::OpenBrace) {
+    if !is_at(plain, 5, Symbol::OpenBrace) {
         return Err(ParseError::Syntax { token: 5 });
     }
-    let (items, to) = read_items(alloc, text, tokens, outside, 6)?;
+    let (items, to) = read_items(alloc, text, tokens, plain, 6)?;
     close_unit(text, tokens, items, to)
 }
 
@@ -207,23 +207,23 @@ fn read_unit(
     alloc: Global,
     text: &[u8],
     tokens: &[Token],
-    outside: &[Symbol],
+    plain: &[Symbol],
 ) -> Result<RawUnit, ParseError>
     requires few { length tokens.now ≤ 1048576 }
     requires within { All (LiesWithin text.now) tokens.now }
-    requires outside { outside.now ≡ outside text.now tokens.now }
-    ensures gives { Gives unit_of result (unit_read text.now tokens.now) }
+    requires plain { plain.now ≡ outside text.now tokens.now }
+    ensures { Gives unit_of result (unit_read text.now tokens.now) }
 {
-    if !is_at(outside, 0, Symbol::Vunit) {
+    if !is_at(plain, 0, Symbol::Vunit) {
         return Err(ParseError::Syntax { token: 0 });
     }
-    if !name_here(outside, 1) {
+    if !name_here(plain, 1) {
         return Err(ParseError::Syntax { token: 1 });
     }
-    if !is_at(outside, 2, Symbol::OpenBrace) {
-        return read_bound(alloc, text, tokens, outside);
+    if !is_at(plain, 2, Symbol::OpenBrace) {
+        return read_bound(alloc, text, tokens, plain);
     }
-    let (items, to) = read_items(alloc, text, tokens, outside, 3)?;
+    let (items, to) = read_items(alloc, text, tokens, plain, 3)?;
     close_unit(text, tokens, items, to)
 }
 
@@ -239,6 +239,6 @@ pub fn parse_unit(alloc: Global, text: &[u8], tokens: &[Token]) -> Result<RawUni
 {
     match classify(alloc, tokens) {
         Err(_) => Err(ParseError::OutOfMemory),
-        Ok(outside) => read_unit(alloc, text, tokens, &outside),
+        Ok(plain) => read_unit(alloc, text, tokens, &plain),
     }
 }
