@@ -6,6 +6,7 @@ mod classes;
 mod errors;
 mod expressions;
 mod items;
+pub mod laws;
 mod next_forms;
 mod operators;
 mod properties;
