@@ -1,10 +1,10 @@
 -- Where an expression ends, with which symbol it begins, and what goes on with it.
-use Rattle.std.proofs.Common.{◌≡◌, ℕ, zero, suc, ◌+◌, ◌<◌, ◌≤◌, Bool, true, false, ◌&&◌, cond, IsTrue, List, length, Some, None, refl, sym, ap, subst, ◌∙◌, arith, lit<}
+use Rattle.std.proofs.Common.{◌≡◌, ℕ, suc, ◌+◌, ◌<◌, ◌≤◌, Bool, true, false, ◌&&◌, cond, IsTrue, List, length, refl, ◌∙◌, arith}
 use Rattle.psl_grammar.specs.declared.symbols.Symbol.{Symbol}
-use Rattle.psl_grammar.specs.declared.symbols.Symbol.TheVariants.{End, Name, SequenceName, Number, Literal, OpenParenthesis, CloseParenthesis, OpenBracket, CloseBracket, Colon, Question, Exclamation, Tilde, And, Or, Caret, AndAnd, OpenBrace, RepeatOpen, RepeatPlus}
+use Rattle.psl_grammar.specs.declared.symbols.Symbol.TheVariants.{End, Name, Number, Literal, CloseParenthesis, OpenBracket, CloseBracket, Question, Exclamation, Tilde, And, Or, Caret}
 use Rattle.psl_grammar.specs.Symbols.{symbol_at, At, after_level, level_at, may_join, begins_sequence, joins_sequences, is_prefix, is_literal}
-use Rattle.psl_grammar.specs.RawExpr.{RawExpr, name, literal, unary, binary, choice}
-use Rattle.psl_grammar.specs.ExprGrammar.{IsExpr, Ends, whole, bit, part, literally, parens, prefixed, joined, chosen, looser}
+use Rattle.psl_grammar.specs.RawExpr.{RawExpr}
+use Rattle.psl_grammar.specs.ExprGrammar.{IsExpr, whole, bit, part, literally, parens, prefixed, joined, chosen, looser}
 use Rattle.psl_parser.proofs.Tests.{there}
 
 module _ (symbols : List Symbol) where

@@ -1,14 +1,14 @@
 -- What is read is an expression.
-use Rattle.std.proofs.Common.{◌≡◌, ℕ, zero, suc, ◌+◌, ◌<◌, ◌≤◌, Bool, true, false, IsTrue, Option, Some, None, List, length, refl, sym, ap, subst, ◌∙◌, arith, lit<, lit≤}
+use Rattle.std.proofs.Common.{◌≡◌, ℕ, zero, suc, ◌+◌, ◌≤◌, Bool, true, false, IsTrue, Some, List, length, arith, lit≤}
 use Rattle.std.proofs.lemmas.Bool.{eqb-true}
 use Rattle.psl_grammar.specs.declared.symbols.Symbol.{Symbol}
 use Rattle.psl_grammar.specs.declared.symbols.Symbol.TheVariants as symbol
-use Rattle.psl_grammar.specs.Symbols.{symbol_at, At, level_at, after_level, is_prefix, is_literal}
-use Rattle.psl_grammar.specs.RawExpr.{RawExpr, name, literal, unary, binary, choice}
-use Rattle.psl_grammar.specs.ExprGrammar.{IsExpr, IsBool, Ends, whole, bit, part, literally, parens, prefixed, joined, chosen, looser}
+use Rattle.psl_grammar.specs.Symbols.{symbol_at, At, level_at, is_prefix}
+use Rattle.psl_grammar.specs.RawExpr.{RawExpr, choice}
+use Rattle.psl_grammar.specs.ExprGrammar.{IsExpr, whole, bit, part, literally, parens, prefixed, joined, chosen, looser}
 use Rattle.psl_grammar.specs.PropGrammar.{IsParen, paren}
-use Rattle.psl_parser.specs.inner.Steps.{◌>>=◌, need, either_way, is_at, Read, loop}
-use Rattle.psl_parser.specs.inner.ExprReaders.{part_at, select_at, name_at, paren_with, prefix_with, operand_with, joins, join_with, levels_with, joined_with, branches_with, choice_with, operand_at, choice_at, operand_in, choice_in, bool_in}
+use Rattle.psl_parser.specs.inner.Steps.{◌>>=◌, need, is_at, Read}
+use Rattle.psl_parser.specs.inner.ExprReaders.{part_at, select_at, name_at, paren_with, prefix_with, operand_with, joins, join_with, levels_with, joined_with, branches_with, choice_with, operand_at, choice_at, operand_in, choice_in}
 use Rattle.psl_parser.proofs.Tests.{is_same, bound, needed, one_way, given, loop_reads}
 use Rattle.psl_parser.proofs.ExprFacts.{level_real}
 

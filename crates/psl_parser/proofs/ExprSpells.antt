@@ -1,17 +1,17 @@
 -- An expression that nothing goes on with is what is read.
-use Rattle.std.proofs.Common.{◌≡◌, ℕ, zero, suc, ◌+◌, ◌<◌, ◌≤◌, Bool, true, false, IsTrue, Option, Some, None, List, length, refl, sym, ap, subst, ◌∙◌, arith, lit<, lit≤}
-use Rattle.std.proofs.lemmas.Bool.{eq-eqb, eqb-true}
-use Rattle.std.specs.Prelude.{nat_eq, nat_lt}
+use Rattle.std.proofs.Common.{◌≡◌, ℕ, zero, suc, ◌+◌, ◌<◌, ◌≤◌, Bool, true, false, IsTrue, Option, Some, None, List, length, refl, sym, ap, subst, ◌∙◌, arith, lit≤}
+use Rattle.std.proofs.lemmas.Bool.{eq-eqb}
+use Rattle.std.specs.Prelude.{nat_lt}
 use Rattle.std.proofs.lemmas.Bool.Decides.{nat_tests}
 use Rattle.psl_grammar.specs.declared.symbols.Symbol.{Symbol}
 use Rattle.psl_grammar.specs.declared.symbols.Symbol.TheVariants as symbol
-use Rattle.psl_grammar.specs.Symbols.{symbol_at, At, level_at, after_level, is_prefix, is_literal}
+use Rattle.psl_grammar.specs.Symbols.{symbol_at, At, level_at, is_prefix, is_literal}
 use Rattle.psl_grammar.specs.RawExpr.{RawExpr, name, literal, unary, binary, choice}
 use Rattle.psl_grammar.specs.ExprGrammar.{IsExpr, IsBool, Ends, whole, bit, part, literally, parens, prefixed, joined, chosen, looser}
-use Rattle.psl_parser.specs.inner.Steps.{◌>>=◌, need, either_way, is, is_at, Read, loop}
+use Rattle.psl_parser.specs.inner.Steps.{◌>>=◌, need, either_way, is_at, loop}
 use Rattle.psl_parser.specs.inner.ExprReaders.{part_at, select_at, name_at, paren_with, prefix_with, operand_with, joins, join_with, levels_with, joined_with, branches_with, choice_with, operand_at, choice_at, operand_in, choice_in, bool_in}
-use Rattle.psl_parser.proofs.Tests.{is_same, is_self, is_other}
-use Rattle.psl_parser.proofs.Loops.{Turns, begins, stops, turns}
+use Rattle.psl_parser.proofs.Tests.{is_self, is_other}
+use Rattle.psl_parser.proofs.Loops.{Turns, stops, turns}
 use Rattle.psl_parser.proofs.Levels.{joined_again}
 use Rattle.psl_parser.proofs.ExprFacts.{bounds, begins_apart, level_plain, question_level, bracket_level}
 

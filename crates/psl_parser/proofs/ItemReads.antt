@@ -1,20 +1,20 @@
 -- What is read is an item.
-use Rattle.std.proofs.Common.{◌≡◌, ℕ, zero, suc, ◌+◌, ◌-◌, ◌≤◌, Bool, true, false, IsTrue, List, [], ◌∷◌, ◌++◌, length, Option, Some, None, refl, sym, subst, arith}
+use Rattle.std.proofs.Common.{◌≡◌, ℕ, suc, ◌+◌, ◌-◌, false, List, [], ◌∷◌, length, Option, Some, None, refl, subst, arith}
 use Rattle.psl_grammar.specs.declared.symbols.Symbol.{Symbol}
 use Rattle.psl_grammar.specs.declared.symbols.Symbol.TheVariants as symbol
-use Rattle.psl_grammar.specs.Symbols.{symbol_at, At, is_name}
+use Rattle.psl_grammar.specs.Symbols.{At}
 use Rattle.psl_grammar.specs.RawSere.{RawSere}
 use Rattle.psl_grammar.specs.RawProp.{RawProp, seq}
 use Rattle.psl_grammar.specs.RawUnit as raw
 use Rattle.psl_grammar.specs.RawUnit.{RawItem}
 use Rattle.psl_grammar.specs.SereGrammar.{IsSeq}
-use Rattle.psl_grammar.specs.PropGrammar.{IsRange, IsProp, prop}
+use Rattle.psl_grammar.specs.PropGrammar.{IsProp, prop}
 use Rattle.psl_grammar.specs.ItemGrammar.{AnyName, AreNames, one, more, IsReport, none, some, IsItem}
 use Rattle.psl_grammar.specs.ItemGrammar as g
-use Rattle.psl_parser.specs.inner.Steps.{◌>>=◌, need, either_way, is_at, Read, loop}
+use Rattle.psl_parser.specs.inner.Steps.{◌>>=◌, is_at}
 use Rattle.psl_parser.specs.inner.FormReaders.{range_end}
 use Rattle.psl_parser.specs.inner.PropReaders.{sequence_of}
-use Rattle.psl_parser.specs.inner.ItemReaders.{name_here, comma_at, name_after, names_at, whole_prop, as_seq, whole_seq, report_at, clock_parens_at, clock_at, wire_end, wire_at, sequence_end, sequence_at, property_end, property_at, assert_end, labelled_at, item_at}
+use Rattle.psl_parser.specs.inner.ItemReaders.{comma_at, name_after, names_at, whole_prop, as_seq, whole_seq, report_at, clock_parens_at, clock_at, wire_end, wire_at, sequence_end, sequence_at, property_end, property_at, assert_end, labelled_at, item_at}
 use Rattle.psl_parser.proofs.Tests.{bound, needed, one_way, given, loop_reads}
 use Rattle.psl_parser.proofs.PropReads.{at, range_read, seq_from}
 use Rattle.psl_parser.proofs.PropSound.{prop_is}

@@ -1,5 +1,5 @@
 -- An item is what is read.
-use Rattle.std.proofs.Common.{◌≡◌, ℕ, zero, suc, ◌+◌, ◌-◌, ◌<◌, ◌≤◌, Bool, true, false, IsTrue, List, [], ◌∷◌, ◌++◌, length, Option, Some, None, refl, sym, ap, subst, ◌∙◌, arith, lit≤}
+use Rattle.std.proofs.Common.{◌≡◌, ℕ, suc, ◌+◌, ◌<◌, ◌≤◌, false, IsTrue, List, [], ◌∷◌, ◌++◌, length, Option, Some, None, refl, sym, ap, subst, ◌∙◌, arith}
 use Rattle.psl_grammar.specs.declared.symbols.Symbol.{Symbol}
 use Rattle.psl_grammar.specs.declared.symbols.Symbol.TheVariants as symbol
 use Rattle.psl_grammar.specs.declared.symbols.Symbol.TheVariants.{Name, SequenceName, PropertyName}
@@ -12,14 +12,13 @@ use Rattle.psl_grammar.specs.SereGrammar.{IsSeq}
 use Rattle.psl_grammar.specs.PropGrammar.{IsRange, IsProp, prop}
 use Rattle.psl_grammar.specs.ItemGrammar.{AnyName, AreNames, one, more, IsReport, none, some, IsItem}
 use Rattle.psl_grammar.specs.ItemGrammar as g
-use Rattle.psl_parser.specs.inner.Steps.{◌>>=◌, need, either_way, is, is_at, Read, loop}
+use Rattle.psl_parser.specs.inner.Steps.{◌>>=◌, is_at, Read}
 use Rattle.psl_parser.specs.inner.FormReaders.{range_end}
-use Rattle.psl_parser.specs.inner.PropReaders.{sequence_of}
-use Rattle.psl_parser.specs.inner.ItemReaders.{name_here, comma_at, name_after, names_at, whole_prop, as_seq, whole_seq, report_at, clock_parens_at, clock_at, wire_end, wire_at, sequence_end, sequence_at, property_end, property_at, assert_end, labelled_at, item_at}
+use Rattle.psl_parser.specs.inner.ItemReaders.{comma_at, name_after, names_at, whole_prop, as_seq, whole_seq, report_at, clock_parens_at, clock_at, wire_end, wire_at, sequence_end, sequence_at, property_end, property_at, assert_end, labelled_at, item_at}
 use Rattle.psl_parser.proofs.Tests.{there, is_other}
-use Rattle.psl_parser.proofs.Loops.{Turns, begins, stops, turns}
+use Rattle.psl_parser.proofs.Loops.{Turns, stops, turns}
 use Rattle.psl_parser.proofs.ExprSpells.{this_way, that_way, has, then, at}
-use Rattle.psl_parser.proofs.PropFacts.{follow, apart, seq_end, range_within, prop_some}
+use Rattle.psl_parser.proofs.PropFacts.{follow, apart, seq_end, prop_some}
 use Rattle.psl_parser.proofs.SereFacts.{timed_bounds, sere_bounds}
 use Rattle.psl_grammar.specs.SereGrammar as seres
 use Rattle.psl_parser.proofs.PropSpells.{range_spelled, prop_spelled, seq_spelled}

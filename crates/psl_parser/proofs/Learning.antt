@@ -1,12 +1,10 @@
 -- How names get their meanings.
-use Rattle.std.proofs.Common.{◌≡◌, ℕ, zero, suc, ◌+◌, ◌<◌, ◌≤◌, Bool, true, false, cond, List, [], ◌∷◌, ◌++◌, length, take, get_or, refl, sym, ap, subst, ◌∙◌, arith}
-use Rattle.std.specs.Prelude.{All, slice_index_or, nat_eq, map}
-use Rattle.std.specs.Cmp.Lexicographic.{pointwise}
+use Rattle.std.proofs.Common.{◌≡◌, ℕ, zero, suc, ◌+◌, ◌<◌, ◌≤◌, false, List, [], ◌∷◌, ◌++◌, length, take, refl, sym, ap, ◌∙◌, arith}
+use Rattle.std.specs.Prelude.{slice_index_or}
 use Rattle.psl_lexer.specs.declared.kinds.Token.{Token}
 use Rattle.psl_lexer.specs.declared.kinds.Kind.{Kind}
 use Rattle.psl_lexer.specs.declared.kinds.Kind.TheVariants as kind
 use Rattle.psl_grammar.specs.declared.symbols.Symbol.{Symbol}
-use Rattle.psl_grammar.specs.declared.symbols.Symbol.TheVariants as symbol
 use Rattle.psl_grammar.specs.Symbols.{symbol_at}
 use Rattle.psl_parser.specs.Units.{Known, kind_symbol, meaning_of, bytes_of, symbol_in, symbols_in, no_token, is_plain}
 use Rattle.psl_parser.specs.inner.Learned.{relearned, relearned_kind}
@@ -61,8 +59,8 @@ pub grown : (text : List ℕ) (known : Known) (name : List ℕ) (meaning : Symbo
 grown text known name meaning tokens i lt symbols bytes s old before after pushed seen looked named same so_far =
     let token = slice_index_or tokens i no_token in
     let one : s ≡ relearned text token (symbol_at (symbols_in text known tokens) i) name meaning =
-        seen ∙ ap (λ (o : Symbol). relearned text token o bytes meaning) (looked ∙ ap (λ (l : List Symbol). symbol_at l i) same)
-        ∙ ap (λ (b : List ℕ). relearned text token (symbol_at (symbols_in text known tokens) i) b meaning) named in
+    seen ∙ ap (λ (o : Symbol). relearned text token o bytes meaning) (looked ∙ ap (λ (l : List Symbol). symbol_at l i) same)
+    ∙ ap (λ (b : List ℕ). relearned text token (symbol_at (symbols_in text known tokens) i) b meaning) named in
     pushed ∙ ap (λ (l : List Symbol). l ++ s ∷ []) so_far
     ∙ ap (λ (x : Symbol). take i (symbols_in text ((name, meaning) ∷ known) tokens) ++ x ∷ []) one
     ∙ sym (next_learned text known name meaning tokens i lt)

@@ -1,5 +1,5 @@
 -- The levels of operators, one by one.
-use Rattle.std.proofs.Common.{◌-◌, ◌<◌, ◌≡◌, ℕ, zero, suc, Bool, true, false, Option, Some, None, List, length, refl, ap, subst, sym, arith}
+use Rattle.std.proofs.Common.{◌-◌, ◌<◌, ◌≡◌, ℕ, zero, suc, Bool, false, Option, Some, None, List, length, refl, ap, subst, sym, arith}
 use Rattle.psl_grammar.specs.declared.symbols.Symbol.{Symbol}
 use Rattle.psl_grammar.specs.RawExpr.{RawExpr}
 use Rattle.psl_grammar.specs.RawSere.{RawSere}

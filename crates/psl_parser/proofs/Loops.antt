@@ -1,9 +1,8 @@
 -- Steps of readers that stop, and loops.
-use Rattle.std.proofs.Common.{◌≡◌, ◌≢◌, ℕ, zero, suc, ◌+◌, ◌<◌, ◌≤◌, Bool, true, false, Option, Some, None, refl, sym, ap, subst, ◌∙◌, arith, List, length, Result}
-use Rattle.psl_grammar.specs.declared.symbols.Symbol.{Symbol}
+use Rattle.std.proofs.Common.{◌≡◌, ℕ, zero, suc, ◌+◌, ◌<◌, ◌≤◌, Bool, true, false, Option, Some, None, refl, sym, ap, subst, ◌∙◌, arith, Result}
 use Rattle.psl_parser.specs.declared.errors.ParseError.{ParseError}
 use Rattle.psl_parser.specs.declared.errors.ParseError.TheVariants.{Syntax, TooDeep, OutOfMemory}
-use Rattle.psl_parser.specs.inner.Steps.{◌>>=◌, need, either_way, Read, loop}
+use Rattle.psl_parser.specs.inner.Steps.{◌>>=◌, either_way, Read, loop}
 use Rattle.psl_parser.specs.inner.Answers.{Halts, Gives}
 
 -- where a step stops, all that is bound to it stops

@@ -1,12 +1,12 @@
 -- What goes on with a property, and with which symbols it begins and ends.
-use Rattle.std.proofs.Common.{◌≡◌, ℕ, zero, suc, ◌+◌, ◌-◌, ◌<◌, ◌≤◌, Bool, true, false, ◌||◌, IsTrue, Option, Some, None, List, length, refl, sym, ap, subst, ◌∙◌, arith, lit<, lit≤}
+use Rattle.std.proofs.Common.{◌≡◌, ℕ, ◌+◌, ◌-◌, ◌<◌, ◌≤◌, Bool, true, false, ◌||◌, IsTrue, Option, List, length, refl, sym, ap, subst, ◌∙◌, arith}
 use Rattle.psl_grammar.specs.declared.symbols.Symbol.{Symbol}
 use Rattle.psl_grammar.specs.declared.symbols.Symbol.TheVariants as symbol
-use Rattle.psl_grammar.specs.Symbols.{symbol_at, At, after_level, level_at, begins_sequence, sere_level, is_pick, is_literal, is_prefix}
+use Rattle.psl_grammar.specs.Symbols.{symbol_at, At, after_level, begins_sequence, sere_level, is_pick, is_literal, is_prefix}
 use Rattle.psl_grammar.specs.RawProp.{RawProp}
 use Rattle.psl_grammar.specs.RawExpr.{RawExpr}
 use Rattle.psl_grammar.specs.RawSere.{RawSere, repeat}
-use Rattle.psl_grammar.specs.ExprGrammar.{IsExpr, Ends, whole, bit, part, literally, parens, prefixed, joined, chosen, looser}
+use Rattle.psl_grammar.specs.ExprGrammar.{IsExpr, whole, bit, part, literally, parens, prefixed, joined, chosen, looser}
 use Rattle.psl_grammar.specs.SereGrammar.{IsTimes, IsPick, IsTimed, IsSere, IsSeq, IsCounts, single, range}
 use Rattle.psl_grammar.specs.SereGrammar as seres
 use Rattle.psl_grammar.specs.PropGrammar.{IsCount, IsRange, IsParen, paren, IsNextForm, Phrase, is_bool, IsProp}
@@ -14,9 +14,9 @@ use Rattle.psl_grammar.specs.PropGrammar as g
 use Rattle.psl_parser.specs.inner.Steps.{is, is_at}
 use Rattle.psl_parser.specs.inner.SereReaders.{is_times}
 use Rattle.psl_parser.specs.inner.PropReaders.{is_rep}
-use Rattle.psl_parser.proofs.Tests.{there, is_same, is_self, is_other}
+use Rattle.psl_parser.proofs.Tests.{there, is_other}
 use Rattle.psl_parser.proofs.ExprFacts as expr
-use Rattle.psl_parser.proofs.SereFacts.{times_are, ends_times, ends_pick, timed_bounds, sere_bounds, times_bounds, tight_begins}
+use Rattle.psl_parser.proofs.SereFacts.{ends_times, ends_pick, timed_bounds, sere_bounds, tight_begins}
 
 -- How tightly a symbol goes on with a phrase: up to 10 as with an expression, 11 what follows a bool or a sequence, 12
 -- `abort`, 14 `until`, 15 a suffix, 16 `->` and `<->`, and 18 for what doesn't go on.

@@ -1,26 +1,25 @@
 -- What is read is a property.
-use Rattle.std.proofs.Common.{◌≡◌, ℕ, zero, suc, ◌+◌, ◌-◌, ◌<◌, ◌≤◌, ◌⊎◌, inl, inr, Bool, true, false, ◌||◌, IsTrue, Option, Some, None, List, length, refl, sym, ap, subst, ◌∙◌, arith, lit<, lit≤}
+use Rattle.std.proofs.Common.{◌≡◌, ℕ, suc, ◌+◌, ◌-◌, ◌⊎◌, inl, inr, Bool, true, false, ◌||◌, Option, Some, None, List, length, refl, sym, subst, ◌∙◌, arith, lit<, lit≤}
 use Rattle.psl_grammar.specs.declared.symbols.Symbol.{Symbol}
 use Rattle.psl_grammar.specs.declared.symbols.Symbol.TheVariants as symbol
-use Rattle.psl_grammar.specs.Symbols.{symbol_at, At, after_level, level_at, begins_sequence, is_pick}
-use Rattle.psl_grammar.specs.RawExpr.{RawExpr, unary}
-use Rattle.psl_grammar.specs.RawExpr as expr
+use Rattle.psl_grammar.specs.Symbols.{symbol_at, At, after_level, is_pick}
+use Rattle.psl_grammar.specs.RawExpr.{RawExpr}
 use Rattle.psl_grammar.specs.RawSere.{RawSere}
 use Rattle.psl_grammar.specs.RawSere as sere
-use Rattle.psl_grammar.specs.RawProp.{RawProp, bool, named, seq, prefix, next, binary, suffix, abort}
-use Rattle.psl_grammar.specs.ExprGrammar.{IsExpr, IsBool, Ends, joined, looser, prefixed, parens}
+use Rattle.psl_grammar.specs.RawProp.{RawProp, bool, seq, abort}
+use Rattle.psl_grammar.specs.ExprGrammar.{IsExpr, Ends, joined, looser}
 use Rattle.psl_grammar.specs.SereGrammar.{IsSere, IsTimed, IsSeq}
 use Rattle.psl_grammar.specs.SereGrammar as seres
 use Rattle.psl_grammar.specs.PropGrammar.{IsCount, IsRange, IsParen, paren, IsNextForm, Phrase, is_bool, are_bool, IsProp}
 use Rattle.psl_grammar.specs.PropGrammar as g
-use Rattle.psl_parser.specs.inner.Steps.{◌>>=◌, need, either_way, is_at, Read, loop}
-use Rattle.psl_parser.specs.inner.ExprReaders.{paren_with, choice_at, operand_in, levels_with, branches_with, bool_in}
-use Rattle.psl_parser.specs.inner.SereReaders.{is_times, repeated, times_at, times_go, again_with, times_from, pick_at, after_bool, tight_in}
+use Rattle.psl_parser.specs.inner.Steps.{◌>>=◌, is_at, loop}
+use Rattle.psl_parser.specs.inner.ExprReaders.{choice_at, operand_in, levels_with, branches_with, bool_in}
+use Rattle.psl_parser.specs.inner.SereReaders.{is_times, repeated, times_at, times_go, again_with, times_from, pick_at, after_bool}
 use Rattle.psl_parser.specs.inner.FormReaders.{Form, count_end, range_end, on_in, next_at, next_range_at, event_count_at, event_range_at, form_in}
-use Rattle.psl_parser.specs.inner.PropReaders.{negation, combination, is_rep, as_bool, prefixed as prefix_read, joined as joined_read, combined, marked, tighter_of, branches_of, times_of, abort_with, goes_at, aborts_from, settled, negation_with, paren_prop_with, atom_with, factor_with, and_with, both_with, or_with, either_with, abt_with, eventually_with, next_with, occ_with, until_with, untl_with, suffix_of, suffix_with, suff_with, implied_with, impl_with, always_with, prop_with, phrase_with, prop_at}
+use Rattle.psl_parser.specs.inner.PropReaders.{combination, is_rep, as_bool, marked, tighter_of, branches_of, times_of, abort_with, goes_at, aborts_from, settled}
 use Rattle.psl_parser.proofs.Tests.{is_same, is_self, bound, needed, one_way, given, loop_reads}
-use Rattle.psl_parser.proofs.ExprReads.{sound, operand_is, levels_are, branches_are, paren_is}
-use Rattle.psl_parser.proofs.SereReads.{tight_is, bool_read, after_read}
+use Rattle.psl_parser.proofs.ExprReads.{levels_are, branches_are, paren_is}
+use Rattle.psl_parser.proofs.SereReads.{bool_read, after_read}
 use Rattle.psl_parser.proofs.SereFacts.{times_are}
 
 module _ (symbols : List Symbol) where
@@ -207,7 +206,7 @@ module _ (symbols : List Symbol) where
   pub rep_ends : (m : ℕ) → is_rep (symbol_at symbols m) ≡ true → Ends symbols false 10 m
   rep_ends m h =
       let z : after_level (symbol_at symbols m) ≡ 11 = elim (either_true (is_times (symbol_at symbols m)) (is_pick (symbol_at symbols m)) h)
-          [ inl a ↦ times_plain (symbol_at symbols m) a | inr b ↦ pick_plain (symbol_at symbols m) b ] in
+      [ inl a ↦ times_plain (symbol_at symbols m) a | inr b ↦ pick_plain (symbol_at symbols m) b ] in
       omega (arith, z)
 
   abbrev LowIs : (room i : ℕ) → RawProp × ℕ → Type 0

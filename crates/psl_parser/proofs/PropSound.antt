@@ -1,21 +1,20 @@
 -- What is read as a phrase of properties is one, in any room.
-use Rattle.std.proofs.Common.{◌≡◌, ℕ, zero, suc, ◌+◌, ◌-◌, ◌<◌, ◌≤◌, Bool, true, false, IsTrue, Option, Some, None, List, length, refl, sym, ap, subst, ◌∙◌, arith, lit<, lit≤}
+use Rattle.std.proofs.Common.{◌≡◌, ℕ, zero, suc, ◌+◌, ◌-◌, false, IsTrue, Some, None, List, length, refl}
 use Rattle.psl_grammar.specs.declared.symbols.Symbol.{Symbol}
 use Rattle.psl_grammar.specs.declared.symbols.Symbol.TheVariants as symbol
 use Rattle.psl_grammar.specs.Symbols.{symbol_at, At, begins_sequence, is_prefix}
-use Rattle.psl_grammar.specs.RawExpr.{RawExpr, unary}
 use Rattle.psl_grammar.specs.RawSere.{RawSere}
-use Rattle.psl_grammar.specs.RawProp.{RawProp, bool, named, seq, prefix, next, binary, suffix, abort}
-use Rattle.psl_grammar.specs.ExprGrammar.{IsExpr, parens, prefixed}
+use Rattle.psl_grammar.specs.RawProp.{RawProp, bool, seq, next, suffix}
+use Rattle.psl_grammar.specs.ExprGrammar.{parens, prefixed}
 use Rattle.psl_grammar.specs.SereGrammar.{IsSere}
 use Rattle.psl_grammar.specs.PropGrammar.{IsNextForm, Phrase, is_bool, IsProp}
 use Rattle.psl_grammar.specs.PropGrammar as g
-use Rattle.psl_parser.specs.inner.Steps.{◌>>=◌, need, either_way, is_at, Read, loop}
+use Rattle.psl_parser.specs.inner.Steps.{◌>>=◌, need, either_way, is_at}
 use Rattle.psl_parser.specs.inner.ExprReaders.{operand_in}
 use Rattle.psl_parser.specs.inner.SereReaders.{tight_in}
-use Rattle.psl_parser.specs.inner.FormReaders.{Form, form_in}
-use Rattle.psl_parser.specs.inner.PropReaders.{negation, combination, as_bool, prefixed as prefix_read, joined as joined_read, combined, marked, tighter_of, goes_at, settled, negation_with, paren_prop_with, atom_with, factor_with, and_with, both_with, or_with, either_with, abt_with, eventually_with, next_with, occ_with, until_with, untl_with, suffix_of, suffix_with, suff_with, implied_with, impl_with, always_with, prop_with, phrase_with, prop_at}
-use Rattle.psl_parser.proofs.Tests.{is_same, bound, needed, one_way, given, loop_reads}
+use Rattle.psl_parser.specs.inner.FormReaders.{form_in}
+use Rattle.psl_parser.specs.inner.PropReaders.{negation, as_bool, prefixed as prefix_read, joined as joined_read, combined, marked, tighter_of, goes_at, negation_with, paren_prop_with, atom_with, factor_with, and_with, both_with, or_with, either_with, abt_with, eventually_with, next_with, occ_with, until_with, untl_with, suffix_of, suffix_with, suff_with, implied_with, impl_with, always_with, prop_with, phrase_with, prop_at}
+use Rattle.psl_parser.proofs.Tests.{bound, needed, one_way, given, loop_reads}
 use Rattle.psl_parser.proofs.ExprReads.{operand_is}
 use Rattle.psl_parser.proofs.SereReads.{tight_is}
 use Rattle.psl_parser.proofs.PropReads.{at, HdlIs, tighter_read, factor_both, both_either, and_case, or_case, settled_read, form_read, bool_from, seq_from}

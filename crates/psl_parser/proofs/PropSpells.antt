@@ -1,5 +1,5 @@
 -- A property that nothing goes on with is what is read.
-use Rattle.std.proofs.Common.{◌≡◌, ℕ, zero, suc, ◌+◌, ◌-◌, ◌<◌, ◌≤◌, Bool, true, false, ◌||◌, IsTrue, Option, Some, None, List, length, refl, sym, ap, subst, ◌∙◌, arith, lit<, lit≤}
+use Rattle.std.proofs.Common.{◌≡◌, ℕ, zero, suc, ◌+◌, ◌-◌, ◌<◌, ◌≤◌, Bool, true, false, ◌||◌, Option, Some, None, List, length, refl, sym, ap, subst, ◌∙◌, arith, lit<, lit≤}
 use Rattle.psl_grammar.specs.declared.symbols.Symbol.{Symbol}
 use Rattle.psl_grammar.specs.declared.symbols.Symbol.TheVariants as symbol
 use Rattle.psl_grammar.specs.Symbols.{symbol_at, At, after_level, level_at, begins_sequence, sere_level, is_pick, is_literal, is_prefix}
@@ -8,26 +8,25 @@ use Rattle.psl_grammar.specs.RawExpr as expr
 use Rattle.psl_grammar.specs.RawSere.{RawSere}
 use Rattle.psl_grammar.specs.RawSere as sere
 use Rattle.psl_grammar.specs.RawProp.{RawProp, bool, named, seq, prefix, next, binary, suffix, abort}
-use Rattle.psl_grammar.specs.ExprGrammar.{IsExpr, IsBool, Ends, whole, bit, part, literally, parens, prefixed, joined, chosen, looser}
+use Rattle.psl_grammar.specs.ExprGrammar.{IsExpr, Ends, whole, bit, part, literally, parens, prefixed, joined, chosen, looser}
 use Rattle.psl_grammar.specs.SereGrammar.{IsSere, IsTimed, IsSeq}
 use Rattle.psl_grammar.specs.SereGrammar as seres
 use Rattle.psl_grammar.specs.PropGrammar.{IsCount, IsRange, IsParen, paren, IsNextForm, Phrase, is_bool, are_bool, IsProp}
 use Rattle.psl_grammar.specs.PropGrammar as g
-use Rattle.psl_parser.specs.inner.Steps.{◌>>=◌, need, either_way, is, is_at, Read, loop}
-use Rattle.psl_parser.specs.inner.ExprReaders.{name_at, paren_with, prefix_with, operand_with, operand_at, choice_at, operand_in, choice_in, levels_with, joined_with, branches_with, bool_in}
-use Rattle.psl_parser.specs.inner.SereReaders.{is_times, times_go, again_with, times_from, after_bool, timed_in, tight_in}
+use Rattle.psl_parser.specs.inner.Steps.{◌>>=◌, need, is, is_at, Read, loop}
+use Rattle.psl_parser.specs.inner.ExprReaders.{paren_with, prefix_with, operand_with, operand_at, choice_at, operand_in, levels_with, joined_with, branches_with, bool_in}
+use Rattle.psl_parser.specs.inner.SereReaders.{is_times, times_go, times_from, after_bool, timed_in, tight_in}
 use Rattle.psl_parser.specs.inner.FormReaders.{Form, is_next, count_end, range_end, on_in, next_at, next_range_at, event_count_at, event_range_at, form_in}
 use Rattle.psl_parser.specs.inner.PropReaders.{negation, combination, is_rep, as_bool, prefixed as prefix_read, joined as joined_read, combined, marked, tighter_of, branches_of, times_of, abort_with, goes_at, aborts_from, settled, negation_with, paren_prop_with, atom_with, factor_with, and_with, both_with, or_with, either_with, abt_with, eventually_with, next_with, occ_with, until_with, untl_with, suffix_of, suffix_with, suff_with, implied_with, impl_with, always_with, prop_with, phrase_with, prop_at}
-use Rattle.psl_parser.proofs.Tests.{is_same, is_self, is_other, bound, needed, one_way, given}
-use Rattle.psl_parser.proofs.Loops.{Turns, begins, stops, turns}
+use Rattle.psl_parser.proofs.Tests.{is_same, is_other, bound, needed, one_way, given}
+use Rattle.psl_parser.proofs.Loops.{Turns, stops, turns}
 use Rattle.psl_parser.proofs.ExprReads.{choice_is}
 use Rattle.psl_parser.proofs.ExprSpells.{this_way, that_way, has, then, at, not_at, level_read, spelled as expr_spelled, choice_spelled, bool_spelled, paren_read, inner_choice, close_ends, colon_ends}
 use Rattle.psl_parser.proofs.SereReads.{bool_read}
 use Rattle.psl_parser.proofs.SereSpells.{tight_spelled, timed_spelled}
 use Rattle.psl_parser.proofs.SereFacts.{tight_begins, timed_bounds, sere_bounds}
 use Rattle.psl_parser.proofs.ExprFacts.{bounds, question_level}
-use Rattle.psl_parser.proofs.PropReads.{rep_ends}
-use Rattle.psl_parser.proofs.PropFacts.{follow, follow_after, follow_sere, level_not, no_rep, opens_word, word_other, no_next, apart, expr_starts, timed_starts, tight_starts, seq_starts, starts, no_bracket, prop_bounds, prop_some, seq_end}
+use Rattle.psl_parser.proofs.PropFacts.{follow, follow_after, follow_sere, level_not, no_rep, opens_word, word_other, no_next, apart, expr_starts, seq_starts, starts, no_bracket, prop_bounds, prop_some, seq_end}
 
 decide : {P : Type 0} (b : Bool) → (b ≡ true → P) → (b ≡ false → P) → P
 decide true k l = k refl
@@ -667,6 +666,7 @@ module _ (symbols : List Symbol) where
       seq_within : {room : ℕ} {s : RawSere} {i m : ℕ} → IsSeq symbols room s i m → m ≤ length symbols
       seq_within (seres.tight p) = (sere_bounds symbols p).1
       seq_within (seres.IsSeq.timed p) = (timed_bounds symbols p).1
+
       seq_low : {room : ℕ} {s : RawSere} {i m : ℕ} → IsSeq symbols room s i m → 14 < follow (symbol_at symbols m) → LowWay room i (seq s false) m
       seq_low {room = room} {s = s} {i = i} {m = m} (seres.tight p) h =
           let not = not_eleven m 14 (lit≤ tt) h in

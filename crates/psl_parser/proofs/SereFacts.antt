@@ -1,9 +1,8 @@
 -- Where repetitions and sequences end, and with which symbols they begin.
-use Rattle.std.proofs.Common.{◌≡◌, ℕ, zero, suc, ◌+◌, ◌<◌, ◌≤◌, ◌⊎◌, inl, inr, Bool, true, false, ◌||◌, IsTrue, Option, Some, None, List, length, refl, sym, ap, ◌∙◌, arith}
+use Rattle.std.proofs.Common.{◌≡◌, ℕ, ◌+◌, ◌<◌, ◌≤◌, ◌⊎◌, inl, inr, Bool, true, false, ◌||◌, Option, List, length, refl, arith}
 use Rattle.psl_grammar.specs.declared.symbols.Symbol.{Symbol}
 use Rattle.psl_grammar.specs.declared.symbols.Symbol.TheVariants as symbol
-use Rattle.psl_grammar.specs.Symbols.{symbol_at, At, begins_sequence, sere_level, is_pick, is_high}
-use Rattle.psl_grammar.specs.RawExpr.{RawExpr}
+use Rattle.psl_grammar.specs.Symbols.{symbol_at, begins_sequence, sere_level, is_pick}
 use Rattle.psl_grammar.specs.RawSere.{RawSere}
 use Rattle.psl_grammar.specs.SereGrammar.{IsCounts, single, range, IsTimes, any, some, IsPick, first, IsTimed, once, picked, IsSere, braces, name, alone, timed, joins, looser}
 use Rattle.psl_grammar.specs.SereGrammar as grammar

@@ -1,18 +1,18 @@
 -- What is read is a repetition, or a sequence.
-use Rattle.std.proofs.Common.{◌≡◌, ℕ, zero, suc, ◌+◌, ◌<◌, ◌≤◌, Bool, true, false, IsTrue, Option, Some, None, List, length, refl, sym, ap, subst, ◌∙◌, arith, lit<, lit≤}
+use Rattle.std.proofs.Common.{◌≡◌, ℕ, zero, suc, ◌+◌, Bool, true, IsTrue, Option, Some, List, length, refl, sym, subst, arith}
 use Rattle.std.proofs.lemmas.Bool.{eqb-true}
 use Rattle.std.proofs.lemmas.Bool.Decides.{nat_tests}
 use Rattle.std.specs.Prelude.{nat_lt}
 use Rattle.psl_grammar.specs.declared.sequences.RawRep.{RawRep}
 use Rattle.psl_grammar.specs.declared.symbols.Symbol.{Symbol}
 use Rattle.psl_grammar.specs.declared.symbols.Symbol.TheVariants as symbol
-use Rattle.psl_grammar.specs.Symbols.{symbol_at, At, level_at, is_pick, is_high, sere_level}
+use Rattle.psl_grammar.specs.Symbols.{symbol_at, At, level_at, is_pick, sere_level}
 use Rattle.psl_grammar.specs.RawExpr.{RawExpr}
-use Rattle.psl_grammar.specs.RawSere.{RawSere, bool, named, lone, repeat, join}
-use Rattle.psl_grammar.specs.ExprGrammar.{IsExpr, IsBool, Ends}
+use Rattle.psl_grammar.specs.RawSere.{RawSere, bool, lone, repeat, join}
+use Rattle.psl_grammar.specs.ExprGrammar.{IsBool, Ends}
 use Rattle.psl_grammar.specs.SereGrammar.{IsCounts, single, range, IsTimes, any, some, IsPick, first, IsTimed, once, picked, IsSere, braces, name, alone, timed, joins, looser}
 use Rattle.psl_grammar.specs.SereGrammar as grammar
-use Rattle.psl_parser.specs.inner.Steps.{◌>>=◌, need, either_way, is_at, Read, loop}
+use Rattle.psl_parser.specs.inner.Steps.{◌>>=◌, is_at}
 use Rattle.psl_parser.specs.inner.ExprReaders.{bool_in}
 use Rattle.psl_parser.specs.inner.SereReaders.{rep, repeated, range_end_at, counts_at, counted_at, times_at, pick_at, times_go, again_with, times_from, after_bool, timed_in, braces_with, lone_at, base_with, tight_with, elem_with, sere_joins, sere_join_with, levels_above, cat_at, elem_in, tight_in}
 use Rattle.psl_parser.proofs.Tests.{is_same, bound, needed, one_way, given, loop_reads}

@@ -1,23 +1,21 @@
 -- A sequence that nothing goes on with is what is read.
-use Rattle.std.proofs.Common.{◌≡◌, ℕ, zero, suc, ◌+◌, ◌<◌, ◌≤◌, Bool, true, false, IsTrue, Option, Some, None, List, length, refl, sym, ap, subst, ◌∙◌, arith, lit<, lit≤}
+use Rattle.std.proofs.Common.{◌≡◌, ℕ, zero, suc, ◌+◌, ◌<◌, ◌≤◌, Bool, true, false, Option, Some, List, length, refl, sym, ap, subst, ◌∙◌, arith}
 use Rattle.std.proofs.lemmas.Bool.{eq-eqb}
 use Rattle.std.proofs.lemmas.Bool.Decides.{nat_tests}
-use Rattle.psl_grammar.specs.declared.sequences.RawRep.{RawRep}
 use Rattle.psl_grammar.specs.declared.symbols.Symbol.{Symbol}
 use Rattle.psl_grammar.specs.declared.symbols.Symbol.TheVariants as symbol
-use Rattle.psl_grammar.specs.Symbols.{symbol_at, At, begins_sequence, level_at, is_pick, is_high, sere_level}
+use Rattle.psl_grammar.specs.Symbols.{symbol_at, At, begins_sequence, is_pick, sere_level}
 use Rattle.psl_grammar.specs.RawExpr.{RawExpr}
 use Rattle.psl_grammar.specs.RawSere.{RawSere, bool, named, lone, repeat, join}
-use Rattle.psl_grammar.specs.ExprGrammar.{IsExpr, IsBool, Ends}
+use Rattle.psl_grammar.specs.ExprGrammar.{IsBool}
 use Rattle.psl_grammar.specs.SereGrammar.{IsCounts, single, range, IsTimes, any, some, IsPick, first, IsTimed, once, picked, IsSere, braces, name, alone, timed, joins, looser}
 use Rattle.psl_grammar.specs.SereGrammar as grammar
-use Rattle.psl_parser.specs.inner.Steps.{◌>>=◌, need, either_way, is, is_at, Read, loop}
-use Rattle.psl_parser.specs.inner.ExprReaders.{bool_in}
-use Rattle.psl_parser.specs.inner.SereReaders.{rep, is_times, repeated, range_end_at, counts_at, counted_at, times_at, pick_at, times_go, again_with, times_from, after_bool, timed_in, braces_with, lone_at, base_with, tight_with, elem_with, sere_joins, sere_join_with, levels_above, cat_at, elem_in, tight_in}
-use Rattle.psl_parser.proofs.Tests.{is_same, is_self, is_other}
-use Rattle.psl_parser.proofs.Loops.{Turns, begins, stops, turns}
+use Rattle.psl_parser.specs.inner.Steps.{◌>>=◌, need, is_at, Read, loop}
+use Rattle.psl_parser.specs.inner.SereReaders.{rep, repeated, range_end_at, counts_at, counted_at, times_at, pick_at, times_go, again_with, times_from, after_bool, timed_in, braces_with, lone_at, base_with, tight_with, elem_with, sere_joins, sere_join_with, levels_above, cat_at, elem_in, tight_in}
+use Rattle.psl_parser.proofs.Tests.{is_other}
+use Rattle.psl_parser.proofs.Loops.{Turns, stops, turns}
 use Rattle.psl_parser.proofs.ExprSpells.{this_way, that_way, has, then, at, bool_spelled}
-use Rattle.psl_parser.proofs.SereFacts.{times_begin, times_no_pick, times_bounds, pick_begin, pick_bounds, timed_bounds, timed_apart, sere_bounds, tight_begins, ends_times, ends_pick, no_level_one}
+use Rattle.psl_parser.proofs.SereFacts.{times_begin, times_no_pick, times_bounds, pick_begin, timed_bounds, timed_apart, sere_bounds, tight_begins, ends_times, ends_pick, no_level_one}
 
 module _ (symbols : List Symbol) where
   apart : (i : ℕ) (s t : Symbol) → At symbols i s → (s ≡ t → ⊥) → is_at symbols i t ≡ false

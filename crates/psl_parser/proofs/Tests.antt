@@ -1,13 +1,13 @@
 -- What the tests on symbols tell, and what a step that gives something was given.
-use Rattle.std.proofs.Common.{◌≡◌, ℕ, zero, suc, ◌+◌, ◌<◌, ◌≤◌, Bool, true, false, ◌||◌, ◌&&◌, cond, Option, Some, None, List, [], ◌∷◌, length, refl, sym, ap, subst, ◌∙◌, arith}
+use Rattle.std.proofs.Common.{◌≡◌, ℕ, zero, suc, ◌<◌, Bool, true, false, Option, Some, None, List, [], ◌∷◌, length, refl, sym, ap, subst, ◌∙◌, arith}
 use Rattle.std.proofs.lemmas.Bool.{eqb-true, eq-eqb}
 use denote.Enum.Declared.{tag_of}
 use denote.Enum.Bare.{tag_one}
 use Rattle.psl_grammar.specs.contracts.symbols.Symbol as symbol
 use Rattle.psl_grammar.specs.declared.symbols.Symbol.{Symbol}
 use Rattle.psl_grammar.specs.declared.symbols.Symbol.TheVariants.{End}
-use Rattle.psl_grammar.specs.Symbols.{symbol_at, At}
-use Rattle.psl_parser.specs.inner.Steps.{◌>>=◌, need, either_way, is, is_at, Read, loop}
+use Rattle.psl_grammar.specs.Symbols.{symbol_at}
+use Rattle.psl_parser.specs.inner.Steps.{◌>>=◌, need, either_way, is, Read, loop}
 
 pub is_same : (s t : Symbol) → is s t ≡ true → s ≡ t
 is_same s t e = tag_one symbol.the_type tt s t (eqb-true (tag_of symbol.the_type s) (tag_of symbol.the_type t) e)

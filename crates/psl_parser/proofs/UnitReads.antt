@@ -1,9 +1,9 @@
 -- A unit is what is read, and what is read is one.
-use Rattle.std.proofs.Common.{◌≡◌, ℕ, zero, suc, ◌+◌, ◌<◌, ◌≤◌, Bool, true, false, IsTrue, List, [], ◌∷◌, ◌++◌, length, Option, Some, None, refl, sym, ap, subst, ◌∙◌, arith}
+use Rattle.std.proofs.Common.{◌≡◌, ℕ, zero, suc, ◌+◌, ◌<◌, ◌≤◌, Bool, true, false, List, [], ◌∷◌, ◌++◌, length, Some, None, refl, sym, ap, subst, ◌∙◌, arith}
 use Rattle.std.proofs.lemmas.Bool.{eq-eqb, eqb-true}
 use Rattle.std.proofs.lemmas.Bool.Decides.{nat_tests}
 use Rattle.std.proofs.lemmas.List.{length-map}
-use Rattle.std.specs.Prelude.{nat_eq, nat_le, Result, Ok, Err, IfOk, MatchResult}
+use Rattle.std.specs.Prelude.{Result, Ok, Err, IfOk, MatchResult}
 use Rattle.psl_parser.specs.declared.errors.ParseError.{ParseError}
 use Rattle.psl_parser.specs.declared.errors.ParseError.TheVariants.{Syntax, TooDeep, OutOfMemory}
 use Rattle.psl_parser.specs.inner.Answers.{Gives, Halts}
@@ -15,12 +15,11 @@ use Rattle.psl_grammar.specs.declared.symbols.Symbol.TheVariants as symbol
 use Rattle.psl_grammar.specs.RawUnit as raw
 use Rattle.psl_grammar.specs.RawUnit.{RawItem, RawUnit}
 use Rattle.psl_grammar.specs.Symbols.{symbol_at, At}
-use Rattle.psl_grammar.specs.ItemGrammar.{AnyName, IsItem, IsShort}
-use Rattle.psl_grammar.specs.ItemGrammar as g
+use Rattle.psl_grammar.specs.ItemGrammar.{IsItem, IsShort}
 use Rattle.psl_parser.specs.Units.{Known, kind_symbol, meaning_of, bytes_of, symbol_in, symbols_in, known_after, outside, AreItems, none, more, IsUnit, plain}
 use Rattle.psl_parser.specs.Units as units
-use Rattle.psl_parser.specs.inner.Steps.{◌>>=◌, need, either_way, is_at, Read}
-use Rattle.psl_parser.specs.inner.ItemReaders.{name_here, is_short, item_at}
+use Rattle.psl_parser.specs.inner.Steps.{◌>>=◌, need, is_at, Read}
+use Rattle.psl_parser.specs.inner.ItemReaders.{is_short, item_at}
 use Rattle.psl_parser.specs.inner.UnitReaders.{short_at, short_item, items_from, items_at, unit_end, bound_unit, unit_read}
 use Rattle.psl_parser.proofs.Tests.{is_same, is_self, is_other, bound, needed, one_way, given, there}
 use Rattle.psl_parser.proofs.ExprSpells.{this_way, that_way, has, then, at}

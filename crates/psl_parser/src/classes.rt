@@ -32,11 +32,19 @@ fn word_symbol(word: Key) -> Symbol
         Key::Abort => Symbol::Abort,
         Key::Within => Symbol::Within,
         Key::EventuallyStrong => Symbol::EventuallyStrong,
-        Key::Until | Key::UntilStrong | Key::UntilOverlapping | Key::UntilStrongOverlapping | Key::Before | Key::BeforeStrong | Key::BeforeOverlapping | Key::BeforeStrongOverlapping => Symbol::Until,
+        Key::Until
+        | Key::UntilStrong
+        | Key::UntilOverlapping
+        | Key::UntilStrongOverlapping
+        | Key::Before
+        | Key::BeforeStrong
+        | Key::BeforeOverlapping
+        | Key::BeforeStrongOverlapping => Symbol::Until,
         Key::Next | Key::NextStrong => Symbol::Next,
         Key::NextA | Key::NextAStrong | Key::NextE | Key::NextEStrong => Symbol::NextRange,
         Key::NextEvent | Key::NextEventStrong => Symbol::Event,
-        Key::NextEventA | Key::NextEventAStrong | Key::NextEventE | Key::NextEventEStrong => Symbol::EventRange,
+        Key::NextEventA | Key::NextEventAStrong | Key::NextEventE | Key::NextEventEStrong =>
+            Symbol::EventRange,
     }
 }
 
@@ -130,7 +138,14 @@ fn bytes_at<'a>(text: &'a [u8], tokens: &[Token], place: u32) -> &'a [u8]
 }
 
 /// What the grammar sees of a token, where one more name has a meaning.
-fn relearned(text: &[u8], tokens: &[Token], old: Symbol, place: u32, name: &[u8], meaning: Symbol) -> Symbol
+fn relearned(
+    text: &[u8],
+    tokens: &[Token],
+    old: Symbol,
+    place: u32,
+    name: &[u8],
+    meaning: Symbol,
+) -> Symbol
     requires within { All (LiesWithin text.now) tokens.now }
     requires place { place < length tokens.now }
     ensures { result ≡ relearned text.now (slice_index_or tokens.now place no_token) old name.now meaning }
@@ -148,7 +163,14 @@ fn relearned(text: &[u8], tokens: &[Token], old: Symbol, place: u32, name: &[u8]
 }
 
 /// What the grammar sees of tokens, where one more name has a meaning.
-fn learn(alloc: Global, text: &[u8], tokens: &[Token], symbols: &[Symbol], name: u32, meaning: Symbol) -> Result<Vec<Symbol>, AllocError>
+fn learn(
+    alloc: Global,
+    text: &[u8],
+    tokens: &[Token],
+    symbols: &[Symbol],
+    name: u32,
+    meaning: Symbol,
+) -> Result<Vec<Symbol>, AllocError>
     requires few { length tokens.now ≤ 1048576 }
     requires within { All (LiesWithin text.now) tokens.now }
     requires name { name < length tokens.now }
@@ -159,7 +181,14 @@ fn learn(alloc: Global, text: &[u8], tokens: &[Token], symbols: &[Symbol], name:
     let mut all = Vec::new(alloc);
     let count = tokens.len() as u32;
     'tokens: for place in 0..count {
-        let symbol = relearned(text, tokens, symbol_at(symbols, place), place, bytes, meaning);
+        let symbol = relearned(
+            text,
+            tokens,
+            symbol_at(symbols, place),
+            place,
+            bytes,
+            meaning,
+        );
         all.push(symbol)?;
     }
     Ok(all)
@@ -173,7 +202,14 @@ fn is_plain(symbol: Symbol) -> bool
 
 /// A name gets a meaning, where it has none.
 #[tactic(auto, using(crate::proofs::Learning::plain_within))]
-pub fn learn_name(alloc: Global, text: &[u8], tokens: &[Token], symbols: Vec<Symbol>, name: u32, meaning: Symbol) -> Result<Vec<Symbol>, ParseError>
+pub fn learn_name(
+    alloc: Global,
+    text: &[u8],
+    tokens: &[Token],
+    symbols: Vec<Symbol>,
+    name: u32,
+    meaning: Symbol,
+) -> Result<Vec<Symbol>, ParseError>
     requires few { length tokens.now ≤ 1048576 }
     requires within { All (LiesWithin text.now) tokens.now }
     ensures learned { (known : Known) → symbols.items ≡ symbols_in text.now known tokens.now

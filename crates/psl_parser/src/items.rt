@@ -27,7 +27,11 @@ pub fn name_here(symbols: &[Symbol], place: u32) -> bool
 
 /// One more name behind names, from a `,` on.
 #[tactic(auto, using(crate::proofs::Loops::stopped), unfolding(crate::specs::inner::ItemReaders::name_after))]
-fn read_name_after(symbols: &[Symbol], names: Vec<u32>, mark: u32) -> Result<(Vec<u32>, u32), ParseError>
+fn read_name_after(
+    symbols: &[Symbol],
+    names: Vec<u32>,
+    mark: u32,
+) -> Result<(Vec<u32>, u32), ParseError>
     requires few { length symbols.now ≤ 1048576 }
     requires within { mark ≤ length symbols.now }
     ensures gives { Gives list_read result (name_after symbols.now (names.items, mark)) }
@@ -46,7 +50,11 @@ fn read_name_after(symbols: &[Symbol], names: Vec<u32>, mark: u32) -> Result<(Ve
 
 /// Names behind the first one.
 #[tactic(auto, using(crate::proofs::Loops::stopped))]
-fn read_names_from(symbols: &[Symbol], first: Vec<u32>, end: u32) -> Result<(Vec<u32>, u32), ParseError>
+fn read_names_from(
+    symbols: &[Symbol],
+    first: Vec<u32>,
+    end: u32,
+) -> Result<(Vec<u32>, u32), ParseError>
     requires few { length symbols.now ≤ 1048576 }
     requires within { end ≤ length symbols.now }
     ensures gives { Gives list_read result (loop (comma_at symbols.now) (name_after symbols.now) (suc (length symbols.now)) (first.items, end)) }
@@ -96,7 +104,11 @@ fn read_names(alloc: Global, symbols: &[Symbol], from: u32) -> Result<(TokenList
 
 /// A property that stands in no open phrase.
 #[tactic(auto, using(crate::proofs::Loops::stopped), unfolding(crate::specs::inner::ItemReaders::whole_prop))]
-fn read_whole_prop(alloc: Global, symbols: &[Symbol], from: u32) -> Result<(RawProp, u32), ParseError>
+fn read_whole_prop(
+    alloc: Global,
+    symbols: &[Symbol],
+    from: u32,
+) -> Result<(RawProp, u32), ParseError>
     requires few { length symbols.now ≤ 1048576 }
     requires within { from ≤ length symbols.now }
     ensures gives { Gives prop_read result (whole_prop symbols.now from) }
@@ -108,7 +120,11 @@ fn read_whole_prop(alloc: Global, symbols: &[Symbol], from: u32) -> Result<(RawP
 
 /// A sequence that stands in no open phrase.
 #[tactic(auto, using(crate::proofs::Loops::stopped), unfolding(crate::specs::inner::ItemReaders::whole_seq, crate::specs::inner::ItemReaders::as_seq))]
-fn read_whole_seq(alloc: Global, symbols: &[Symbol], from: u32) -> Result<(RawSere, u32), ParseError>
+fn read_whole_seq(
+    alloc: Global,
+    symbols: &[Symbol],
+    from: u32,
+) -> Result<(RawSere, u32), ParseError>
     requires few { length symbols.now ≤ 1048576 }
     requires within { from ≤ length symbols.now }
     ensures gives { Gives sere_read result (whole_seq symbols.now from) }
@@ -205,7 +221,12 @@ fn read_clock(symbols: &[Symbol], from: u32) -> Result<(RawItem, u32), ParseErro
 
 /// The end of a declaration of signals.
 #[tactic(auto, using(crate::proofs::Loops::stopped), unfolding(crate::specs::inner::ItemReaders::wire_end))]
-fn read_wire_end(symbols: &[Symbol], range: Option<(u32, u32)>, names: TokenList, end: u32) -> Result<(RawItem, u32), ParseError>
+fn read_wire_end(
+    symbols: &[Symbol],
+    range: Option<(u32, u32)>,
+    names: TokenList,
+    end: u32,
+) -> Result<(RawItem, u32), ParseError>
     requires few { length symbols.now ≤ 1048576 }
     requires within { end ≤ length symbols.now }
     ensures gives { Gives item_read result (wire_end symbols.now range (names, end)) }
@@ -285,7 +306,13 @@ fn read_property(alloc: Global, symbols: &[Symbol], from: u32) -> Result<(RawIte
 
 /// The end of an assertion behind its property.
 #[tactic(auto, using(crate::proofs::Loops::stopped), unfolding(crate::specs::inner::ItemReaders::assert_end))]
-fn read_assert_end(symbols: &[Symbol], word: u32, label: Option<u32>, body: RawProp, end: u32) -> Result<(RawItem, u32), ParseError>
+fn read_assert_end(
+    symbols: &[Symbol],
+    word: u32,
+    label: Option<u32>,
+    body: RawProp,
+    end: u32,
+) -> Result<(RawItem, u32), ParseError>
     requires few { length symbols.now ≤ 1048576 }
     requires within { end ≤ length symbols.now }
     ensures gives { Gives item_read result (assert_end symbols.now word label (prop_of body, end)) }

@@ -12,6 +12,8 @@ mod operators;
 mod properties;
 mod sequences;
 mod symbols;
+#[cfg(test)]
+mod tests;
 mod trees;
 mod units;
 

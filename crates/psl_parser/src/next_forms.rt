@@ -79,7 +79,12 @@ pub fn read_range(symbols: &[Symbol], from: u32) -> Result<u32, ParseError>
 
 /// A bool in parentheses.
 #[tactic(auto, using(crate::proofs::Loops::stopped), unfolding(crate::specs::inner::FormReaders::on_in))]
-fn read_on(alloc: Global, symbols: &[Symbol], room: u32, from: u32) -> Result<(RawExpr, u32), ParseError>
+fn read_on(
+    alloc: Global,
+    symbols: &[Symbol],
+    room: u32,
+    from: u32,
+) -> Result<(RawExpr, u32), ParseError>
     requires few { length symbols.now ≤ 1048576 }
     requires within { from ≤ length symbols.now }
     requires room { room ≤ 64 }
@@ -126,7 +131,11 @@ fn read_next_range(symbols: &[Symbol], from: u32) -> Result<(NextForm, u32), Par
 
 /// The count behind the Boolean of `next_event`, where it has one.
 #[tactic(auto, using(crate::proofs::Loops::stopped), unfolding(crate::specs::inner::FormReaders::event_count_at))]
-fn read_event_count(symbols: &[Symbol], on: RawExpr, end: u32) -> Result<(NextForm, u32), ParseError>
+fn read_event_count(
+    symbols: &[Symbol],
+    on: RawExpr,
+    end: u32,
+) -> Result<(NextForm, u32), ParseError>
     requires few { length symbols.now ≤ 1048576 }
     requires within { end ≤ length symbols.now }
     ensures gives { Gives form_read result (event_count_at symbols.now (expr_of on, end)) }
@@ -142,7 +151,11 @@ fn read_event_count(symbols: &[Symbol], on: RawExpr, end: u32) -> Result<(NextFo
 
 /// The range behind the Boolean of `next_event_a` or `next_event_e`.
 #[tactic(auto, using(crate::proofs::Loops::stopped), unfolding(crate::specs::inner::FormReaders::event_range_at))]
-fn read_event_range(symbols: &[Symbol], on: RawExpr, end: u32) -> Result<(NextForm, u32), ParseError>
+fn read_event_range(
+    symbols: &[Symbol],
+    on: RawExpr,
+    end: u32,
+) -> Result<(NextForm, u32), ParseError>
     requires few { length symbols.now ≤ 1048576 }
     requires within { end ≤ length symbols.now }
     ensures gives { Gives form_read result (event_range_at symbols.now (expr_of on, end)) }
@@ -155,7 +168,12 @@ fn read_event_range(symbols: &[Symbol], on: RawExpr, end: u32) -> Result<(NextFo
 
 /// A word of `next` with its Boolean and its counts.
 #[tactic(auto, using(crate::proofs::Loops::stopped), unfolding(crate::specs::inner::FormReaders::form_in))]
-pub fn read_form(alloc: Global, symbols: &[Symbol], room: u32, from: u32) -> Result<(NextForm, u32), ParseError>
+pub fn read_form(
+    alloc: Global,
+    symbols: &[Symbol],
+    room: u32,
+    from: u32,
+) -> Result<(NextForm, u32), ParseError>
     requires few { length symbols.now ≤ 1048576 }
     requires within { from ≤ length symbols.now }
     requires room { room ≤ 64 }

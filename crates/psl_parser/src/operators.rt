@@ -63,7 +63,11 @@ pub fn combine(
 
 /// A sequence that was read, with `!` or without.
 #[tactic(auto, using(crate::proofs::Loops::stopped), unfolding(crate::specs::inner::PropReaders::marked))]
-pub fn read_marked(symbols: &[Symbol], sere: RawSere, end: u32) -> Result<(RawProp, u32), ParseError>
+pub fn read_marked(
+    symbols: &[Symbol],
+    sere: RawSere,
+    end: u32,
+) -> Result<(RawProp, u32), ParseError>
     requires few { length symbols.now ≤ 1048576 }
     requires within { end ≤ length symbols.now }
     ensures gives { Gives prop_read result (marked symbols.now (sere_of sere, end)) }
@@ -80,7 +84,13 @@ pub fn read_marked(symbols: &[Symbol], sere: RawSere, end: u32) -> Result<(RawPr
 
 /// What joins more tightly than `&&` behind a phrase.
 #[tactic(auto, using(crate::proofs::Loops::stopped), unfolding(crate::specs::inner::PropReaders::tighter_of))]
-pub fn read_tighter(alloc: Global, symbols: &[Symbol], room: u32, prop: RawProp, end: u32) -> Result<(RawProp, u32), ParseError>
+pub fn read_tighter(
+    alloc: Global,
+    symbols: &[Symbol],
+    room: u32,
+    prop: RawProp,
+    end: u32,
+) -> Result<(RawProp, u32), ParseError>
     requires few { length symbols.now ≤ 1048576 }
     requires within { end ≤ length symbols.now }
     requires room { room ≤ 64 }
@@ -99,7 +109,13 @@ pub fn read_tighter(alloc: Global, symbols: &[Symbol], room: u32, prop: RawProp,
 
 /// The branches of a choice behind a phrase.
 #[tactic(auto, using(crate::proofs::Loops::stopped), unfolding(crate::specs::inner::PropReaders::branches_of))]
-fn read_choices(alloc: Global, symbols: &[Symbol], room: u32, prop: RawProp, end: u32) -> Result<(RawProp, u32), ParseError>
+fn read_choices(
+    alloc: Global,
+    symbols: &[Symbol],
+    room: u32,
+    prop: RawProp,
+    end: u32,
+) -> Result<(RawProp, u32), ParseError>
     requires few { length symbols.now ≤ 1048576 }
     requires within { end ≤ length symbols.now }
     requires room { room ≤ 64 }
@@ -118,7 +134,12 @@ fn read_choices(alloc: Global, symbols: &[Symbol], room: u32, prop: RawProp, end
 
 /// The repetitions behind a phrase, and `!`.
 #[tactic(auto, using(crate::proofs::Loops::stopped), unfolding(crate::specs::inner::PropReaders::times_of))]
-fn read_times_of(alloc: Global, symbols: &[Symbol], prop: RawProp, end: u32) -> Result<(RawProp, u32), ParseError>
+fn read_times_of(
+    alloc: Global,
+    symbols: &[Symbol],
+    prop: RawProp,
+    end: u32,
+) -> Result<(RawProp, u32), ParseError>
     requires few { length symbols.now ≤ 1048576 }
     requires within { end ≤ length symbols.now }
     ensures gives { Gives prop_read result (times_of symbols.now (prop_of prop) end) }
@@ -139,7 +160,13 @@ fn read_times_of(alloc: Global, symbols: &[Symbol], prop: RawProp, end: u32) -> 
 
 /// `abort` and its Boolean, behind a phrase.
 #[tactic(auto, using(crate::proofs::Loops::stopped), unfolding(crate::specs::inner::PropReaders::abort_with))]
-fn read_abort(alloc: Global, symbols: &[Symbol], room: u32, prop: RawProp, end: u32) -> Result<(RawProp, u32), ParseError>
+fn read_abort(
+    alloc: Global,
+    symbols: &[Symbol],
+    room: u32,
+    prop: RawProp,
+    end: u32,
+) -> Result<(RawProp, u32), ParseError>
     requires few { length symbols.now ≤ 1048576 }
     requires within { end ≤ length symbols.now }
     requires room { room ≤ 64 }
@@ -155,7 +182,13 @@ fn read_abort(alloc: Global, symbols: &[Symbol], room: u32, prop: RawProp, end: 
 
 /// The aborts behind a phrase.
 #[tactic(auto, using(crate::proofs::Loops::stopped), unfolding(crate::specs::inner::PropReaders::aborts_from))]
-fn read_aborts(alloc: Global, symbols: &[Symbol], room: u32, prop: RawProp, end: u32) -> Result<(RawProp, u32), ParseError>
+fn read_aborts(
+    alloc: Global,
+    symbols: &[Symbol],
+    room: u32,
+    prop: RawProp,
+    end: u32,
+) -> Result<(RawProp, u32), ParseError>
     requires few { length symbols.now ≤ 1048576 }
     requires within { end ≤ length symbols.now }
     requires room { room ≤ 64 }
@@ -179,7 +212,13 @@ fn read_aborts(alloc: Global, symbols: &[Symbol], room: u32, prop: RawProp, end:
 
 /// What follows a phrase that `||` doesn't go on with: a choice, repetitions and aborts.
 #[tactic(auto, using(crate::proofs::Loops::stopped), unfolding(crate::specs::inner::PropReaders::settled))]
-pub fn read_settled(alloc: Global, symbols: &[Symbol], room: u32, prop: RawProp, end: u32) -> Result<(RawProp, u32), ParseError>
+pub fn read_settled(
+    alloc: Global,
+    symbols: &[Symbol],
+    room: u32,
+    prop: RawProp,
+    end: u32,
+) -> Result<(RawProp, u32), ParseError>
     requires few { length symbols.now ≤ 1048576 }
     requires within { end ≤ length symbols.now }
     requires room { room ≤ 64 }

@@ -25,7 +25,13 @@ use std::alloc::Global;
 /// A body inside one more open phrase.
 #[cycle(prop)]
 #[tactic(auto, unfolding(crate::specs::inner::PropReaders::prop_at, crate::specs::inner::PropReaders::phrase_with))]
-fn open_body(alloc: Global, symbols: &[Symbol], room: u32, body: Body, from: u32) -> Result<(RawProp, u32), ParseError>
+fn open_body(
+    alloc: Global,
+    symbols: &[Symbol],
+    room: u32,
+    body: Body,
+    from: u32,
+) -> Result<(RawProp, u32), ParseError>
     requires few { length symbols.now ≤ 1048576 }
     requires within { from ≤ length symbols.now }
     requires room { room ≤ 64 }
@@ -48,7 +54,12 @@ fn open_body(alloc: Global, symbols: &[Symbol], room: u32, body: Body, from: u32
 /// `!` and its operand.
 #[cycle(prop)]
 #[tactic(auto, using(crate::proofs::Loops::stopped), unfolding(crate::specs::inner::PropReaders::negation_with))]
-fn read_negation(alloc: Global, symbols: &[Symbol], room: u32, from: u32) -> Result<(RawProp, u32), ParseError>
+fn read_negation(
+    alloc: Global,
+    symbols: &[Symbol],
+    room: u32,
+    from: u32,
+) -> Result<(RawProp, u32), ParseError>
     requires few { length symbols.now ≤ 1048576 }
     requires within { from ≤ length symbols.now }
     requires room { room ≤ 64 }
@@ -65,7 +76,12 @@ fn read_negation(alloc: Global, symbols: &[Symbol], room: u32, from: u32) -> Res
 /// A property in parentheses.
 #[cycle(prop)]
 #[tactic(auto, using(crate::proofs::Loops::stopped), unfolding(crate::specs::inner::PropReaders::paren_prop_with))]
-fn read_paren_prop(alloc: Global, symbols: &[Symbol], room: u32, from: u32) -> Result<(RawProp, u32), ParseError>
+fn read_paren_prop(
+    alloc: Global,
+    symbols: &[Symbol],
+    room: u32,
+    from: u32,
+) -> Result<(RawProp, u32), ParseError>
     requires few { length symbols.now ≤ 1048576 }
     requires within { from ≤ length symbols.now }
     requires room { room ≤ 64 }
@@ -84,7 +100,12 @@ fn read_paren_prop(alloc: Global, symbols: &[Symbol], room: u32, from: u32) -> R
 /// An operand with its prefix operators.
 #[cycle(prop)]
 #[tactic(auto, using(crate::proofs::Loops::stopped), unfolding(crate::specs::inner::PropReaders::atom_with))]
-fn read_atom(alloc: Global, symbols: &[Symbol], room: u32, from: u32) -> Result<(RawProp, u32), ParseError>
+fn read_atom(
+    alloc: Global,
+    symbols: &[Symbol],
+    room: u32,
+    from: u32,
+) -> Result<(RawProp, u32), ParseError>
     requires few { length symbols.now ≤ 1048576 }
     requires within { from ≤ length symbols.now }
     requires room { room ≤ 64 }
@@ -112,7 +133,12 @@ fn read_atom(alloc: Global, symbols: &[Symbol], room: u32, from: u32) -> Result<
 /// An operand of `&&`.
 #[cycle(prop)]
 #[tactic(auto, using(crate::proofs::Loops::stopped), unfolding(crate::specs::inner::PropReaders::factor_with))]
-fn read_factor(alloc: Global, symbols: &[Symbol], room: u32, from: u32) -> Result<(RawProp, u32), ParseError>
+fn read_factor(
+    alloc: Global,
+    symbols: &[Symbol],
+    room: u32,
+    from: u32,
+) -> Result<(RawProp, u32), ParseError>
     requires few { length symbols.now ≤ 1048576 }
     requires within { from ≤ length symbols.now }
     requires room { room ≤ 64 }
@@ -127,7 +153,13 @@ fn read_factor(alloc: Global, symbols: &[Symbol], room: u32, from: u32) -> Resul
 /// `&&` and its right operand, behind its left one.
 #[cycle(prop)]
 #[tactic(auto, using(crate::proofs::Loops::stopped), unfolding(crate::specs::inner::PropReaders::and_with))]
-fn read_and(alloc: Global, symbols: &[Symbol], room: u32, left: RawProp, mark: u32) -> Result<(RawProp, u32), ParseError>
+fn read_and(
+    alloc: Global,
+    symbols: &[Symbol],
+    room: u32,
+    left: RawProp,
+    mark: u32,
+) -> Result<(RawProp, u32), ParseError>
     requires few { length symbols.now ≤ 1048576 }
     requires within { mark ≤ length symbols.now }
     requires room { room ≤ 64 }
@@ -144,7 +176,13 @@ fn read_and(alloc: Global, symbols: &[Symbol], room: u32, left: RawProp, mark: u
 /// What `&&` joins to a phrase that was read.
 #[cycle(prop)]
 #[tactic(auto, using(crate::proofs::Loops::stopped))]
-fn read_ands(alloc: Global, symbols: &[Symbol], room: u32, first: RawProp, end: u32) -> Result<(RawProp, u32), ParseError>
+fn read_ands(
+    alloc: Global,
+    symbols: &[Symbol],
+    room: u32,
+    first: RawProp,
+    end: u32,
+) -> Result<(RawProp, u32), ParseError>
     requires few { length symbols.now ≤ 1048576 }
     requires within { end ≤ length symbols.now }
     requires room { room ≤ 64 }
@@ -169,7 +207,12 @@ fn read_ands(alloc: Global, symbols: &[Symbol], room: u32, first: RawProp, end: 
 /// An operand of `||`.
 #[cycle(prop)]
 #[tactic(auto, using(crate::proofs::Loops::stopped), unfolding(crate::specs::inner::PropReaders::both_with))]
-fn read_both(alloc: Global, symbols: &[Symbol], room: u32, from: u32) -> Result<(RawProp, u32), ParseError>
+fn read_both(
+    alloc: Global,
+    symbols: &[Symbol],
+    room: u32,
+    from: u32,
+) -> Result<(RawProp, u32), ParseError>
     requires few { length symbols.now ≤ 1048576 }
     requires within { from ≤ length symbols.now }
     requires room { room ≤ 64 }
@@ -184,7 +227,13 @@ fn read_both(alloc: Global, symbols: &[Symbol], room: u32, from: u32) -> Result<
 /// `||` and its right operand, behind its left one.
 #[cycle(prop)]
 #[tactic(auto, using(crate::proofs::Loops::stopped), unfolding(crate::specs::inner::PropReaders::or_with))]
-fn read_or(alloc: Global, symbols: &[Symbol], room: u32, left: RawProp, mark: u32) -> Result<(RawProp, u32), ParseError>
+fn read_or(
+    alloc: Global,
+    symbols: &[Symbol],
+    room: u32,
+    left: RawProp,
+    mark: u32,
+) -> Result<(RawProp, u32), ParseError>
     requires few { length symbols.now ≤ 1048576 }
     requires within { mark ≤ length symbols.now }
     requires room { room ≤ 64 }
@@ -201,7 +250,13 @@ fn read_or(alloc: Global, symbols: &[Symbol], room: u32, left: RawProp, mark: u3
 /// What `||` joins to a phrase that was read.
 #[cycle(prop)]
 #[tactic(auto, using(crate::proofs::Loops::stopped))]
-fn read_ors(alloc: Global, symbols: &[Symbol], room: u32, first: RawProp, end: u32) -> Result<(RawProp, u32), ParseError>
+fn read_ors(
+    alloc: Global,
+    symbols: &[Symbol],
+    room: u32,
+    first: RawProp,
+    end: u32,
+) -> Result<(RawProp, u32), ParseError>
     requires few { length symbols.now ≤ 1048576 }
     requires within { end ≤ length symbols.now }
     requires room { room ≤ 64 }
@@ -226,7 +281,12 @@ fn read_ors(alloc: Global, symbols: &[Symbol], room: u32, first: RawProp, end: u
 /// What `||` joins, and one that it doesn't.
 #[cycle(prop)]
 #[tactic(auto, using(crate::proofs::Loops::stopped), unfolding(crate::specs::inner::PropReaders::either_with))]
-fn read_either(alloc: Global, symbols: &[Symbol], room: u32, from: u32) -> Result<(RawProp, u32), ParseError>
+fn read_either(
+    alloc: Global,
+    symbols: &[Symbol],
+    room: u32,
+    from: u32,
+) -> Result<(RawProp, u32), ParseError>
     requires few { length symbols.now ≤ 1048576 }
     requires within { from ≤ length symbols.now }
     requires room { room ≤ 64 }
@@ -241,7 +301,12 @@ fn read_either(alloc: Global, symbols: &[Symbol], room: u32, from: u32) -> Resul
 /// A phrase with its aborts.
 #[cycle(prop)]
 #[tactic(auto, using(crate::proofs::Loops::stopped), unfolding(crate::specs::inner::PropReaders::abt_with))]
-fn read_abt(alloc: Global, symbols: &[Symbol], room: u32, from: u32) -> Result<(RawProp, u32), ParseError>
+fn read_abt(
+    alloc: Global,
+    symbols: &[Symbol],
+    room: u32,
+    from: u32,
+) -> Result<(RawProp, u32), ParseError>
     requires few { length symbols.now ≤ 1048576 }
     requires within { from ≤ length symbols.now }
     requires room { room ≤ 64 }
@@ -256,7 +321,12 @@ fn read_abt(alloc: Global, symbols: &[Symbol], room: u32, from: u32) -> Result<(
 /// `eventually!` and its body.
 #[cycle(prop)]
 #[tactic(auto, using(crate::proofs::Loops::stopped), unfolding(crate::specs::inner::PropReaders::eventually_with))]
-fn read_eventually(alloc: Global, symbols: &[Symbol], room: u32, from: u32) -> Result<(RawProp, u32), ParseError>
+fn read_eventually(
+    alloc: Global,
+    symbols: &[Symbol],
+    room: u32,
+    from: u32,
+) -> Result<(RawProp, u32), ParseError>
     requires few { length symbols.now ≤ 1048576 }
     requires within { from ≤ length symbols.now }
     requires room { room ≤ 64 }
@@ -273,7 +343,12 @@ fn read_eventually(alloc: Global, symbols: &[Symbol], room: u32, from: u32) -> R
 /// A form of `next` and its body.
 #[cycle(prop)]
 #[tactic(auto, using(crate::proofs::Loops::stopped), unfolding(crate::specs::inner::PropReaders::next_with))]
-fn read_later(alloc: Global, symbols: &[Symbol], room: u32, from: u32) -> Result<(RawProp, u32), ParseError>
+fn read_later(
+    alloc: Global,
+    symbols: &[Symbol],
+    room: u32,
+    from: u32,
+) -> Result<(RawProp, u32), ParseError>
     requires few { length symbols.now ≤ 1048576 }
     requires within { from ≤ length symbols.now }
     requires room { room ≤ 64 }
@@ -291,7 +366,12 @@ fn read_later(alloc: Global, symbols: &[Symbol], room: u32, from: u32) -> Result
 /// An operand of `until`.
 #[cycle(prop)]
 #[tactic(auto, using(crate::proofs::Loops::stopped), unfolding(crate::specs::inner::PropReaders::occ_with))]
-fn read_occ(alloc: Global, symbols: &[Symbol], room: u32, from: u32) -> Result<(RawProp, u32), ParseError>
+fn read_occ(
+    alloc: Global,
+    symbols: &[Symbol],
+    room: u32,
+    from: u32,
+) -> Result<(RawProp, u32), ParseError>
     requires few { length symbols.now ≤ 1048576 }
     requires within { from ≤ length symbols.now }
     requires room { room ≤ 64 }
@@ -311,7 +391,13 @@ fn read_occ(alloc: Global, symbols: &[Symbol], room: u32, from: u32) -> Result<(
 /// `until` and its right operand, behind its left one.
 #[cycle(prop)]
 #[tactic(auto, using(crate::proofs::Loops::stopped), unfolding(crate::specs::inner::PropReaders::until_with))]
-fn read_until(alloc: Global, symbols: &[Symbol], room: u32, left: RawProp, mark: u32) -> Result<(RawProp, u32), ParseError>
+fn read_until(
+    alloc: Global,
+    symbols: &[Symbol],
+    room: u32,
+    left: RawProp,
+    mark: u32,
+) -> Result<(RawProp, u32), ParseError>
     requires few { length symbols.now ≤ 1048576 }
     requires within { mark ≤ length symbols.now }
     requires room { room ≤ 64 }
@@ -330,7 +416,12 @@ fn read_until(alloc: Global, symbols: &[Symbol], room: u32, left: RawProp, mark:
 /// What may stand behind `|->`, but for a suffix.
 #[cycle(prop)]
 #[tactic(auto, using(crate::proofs::Loops::stopped), unfolding(crate::specs::inner::PropReaders::untl_with))]
-fn read_untl(alloc: Global, symbols: &[Symbol], room: u32, from: u32) -> Result<(RawProp, u32), ParseError>
+fn read_untl(
+    alloc: Global,
+    symbols: &[Symbol],
+    room: u32,
+    from: u32,
+) -> Result<(RawProp, u32), ParseError>
     requires few { length symbols.now ≤ 1048576 }
     requires within { from ≤ length symbols.now }
     requires room { room ≤ 64 }
@@ -345,7 +436,13 @@ fn read_untl(alloc: Global, symbols: &[Symbol], room: u32, from: u32) -> Result<
 /// A suffix behind its sequence.
 #[cycle(prop)]
 #[tactic(auto, using(crate::proofs::Loops::stopped), unfolding(crate::specs::inner::PropReaders::suffix_with))]
-fn read_suffix(alloc: Global, symbols: &[Symbol], room: u32, left: RawProp, mark: u32) -> Result<(RawProp, u32), ParseError>
+fn read_suffix(
+    alloc: Global,
+    symbols: &[Symbol],
+    room: u32,
+    left: RawProp,
+    mark: u32,
+) -> Result<(RawProp, u32), ParseError>
     requires few { length symbols.now ≤ 1048576 }
     requires within { mark ≤ length symbols.now }
     requires room { room ≤ 64 }
@@ -366,7 +463,13 @@ fn read_suffix(alloc: Global, symbols: &[Symbol], room: u32, left: RawProp, mark
 /// The property behind what must be a sequence.
 #[cycle(prop)]
 #[tactic(auto, using(crate::proofs::Loops::stopped))]
-fn read_suffix_of(alloc: Global, symbols: &[Symbol], room: u32, left: RawProp, mark: u32) -> Result<(RawProp, u32), ParseError>
+fn read_suffix_of(
+    alloc: Global,
+    symbols: &[Symbol],
+    room: u32,
+    left: RawProp,
+    mark: u32,
+) -> Result<(RawProp, u32), ParseError>
     requires few { length symbols.now ≤ 1048576 }
     requires within { mark ≤ length symbols.now }
     requires room { room ≤ 64 }
@@ -384,7 +487,13 @@ fn read_suffix_of(alloc: Global, symbols: &[Symbol], room: u32, left: RawProp, m
 /// The property behind a sequence.
 #[cycle(prop)]
 #[tactic(auto, using(crate::proofs::Loops::stopped), unfolding(crate::specs::inner::PropReaders::suffix_of))]
-fn read_suffix_body(alloc: Global, symbols: &[Symbol], room: u32, sere: RawSere, mark: u32) -> Result<(RawProp, u32), ParseError>
+fn read_suffix_body(
+    alloc: Global,
+    symbols: &[Symbol],
+    room: u32,
+    sere: RawSere,
+    mark: u32,
+) -> Result<(RawProp, u32), ParseError>
     requires few { length symbols.now ≤ 1048576 }
     requires within { mark ≤ length symbols.now }
     requires room { room ≤ 64 }
@@ -401,7 +510,12 @@ fn read_suffix_body(alloc: Global, symbols: &[Symbol], room: u32, sere: RawSere,
 /// An operand of `->` and `<->`.
 #[cycle(prop)]
 #[tactic(auto, using(crate::proofs::Loops::stopped), unfolding(crate::specs::inner::PropReaders::suff_with))]
-fn read_suff(alloc: Global, symbols: &[Symbol], room: u32, from: u32) -> Result<(RawProp, u32), ParseError>
+fn read_suff(
+    alloc: Global,
+    symbols: &[Symbol],
+    room: u32,
+    from: u32,
+) -> Result<(RawProp, u32), ParseError>
     requires few { length symbols.now ≤ 1048576 }
     requires within { from ≤ length symbols.now }
     requires room { room ≤ 64 }
@@ -416,7 +530,13 @@ fn read_suff(alloc: Global, symbols: &[Symbol], room: u32, from: u32) -> Result<
 /// `->` or `<->` and its right operand, behind its left one.
 #[cycle(prop)]
 #[tactic(auto, using(crate::proofs::Loops::stopped), unfolding(crate::specs::inner::PropReaders::implied_with))]
-fn read_implied(alloc: Global, symbols: &[Symbol], room: u32, left: RawProp, mark: u32) -> Result<(RawProp, u32), ParseError>
+fn read_implied(
+    alloc: Global,
+    symbols: &[Symbol],
+    room: u32,
+    left: RawProp,
+    mark: u32,
+) -> Result<(RawProp, u32), ParseError>
     requires few { length symbols.now ≤ 1048576 }
     requires within { mark ≤ length symbols.now }
     requires room { room ≤ 64 }
@@ -440,7 +560,12 @@ fn read_implied(alloc: Global, symbols: &[Symbol], room: u32, left: RawProp, mar
 /// What may stand behind `always`, but for `always` itself.
 #[cycle(prop)]
 #[tactic(auto, using(crate::proofs::Loops::stopped), unfolding(crate::specs::inner::PropReaders::impl_with))]
-fn read_impl(alloc: Global, symbols: &[Symbol], room: u32, from: u32) -> Result<(RawProp, u32), ParseError>
+fn read_impl(
+    alloc: Global,
+    symbols: &[Symbol],
+    room: u32,
+    from: u32,
+) -> Result<(RawProp, u32), ParseError>
     requires few { length symbols.now ≤ 1048576 }
     requires within { from ≤ length symbols.now }
     requires room { room ≤ 64 }
@@ -455,7 +580,12 @@ fn read_impl(alloc: Global, symbols: &[Symbol], room: u32, from: u32) -> Result<
 /// `always` or `never` and its body.
 #[cycle(prop)]
 #[tactic(auto, using(crate::proofs::Loops::stopped), unfolding(crate::specs::inner::PropReaders::always_with))]
-fn read_always(alloc: Global, symbols: &[Symbol], room: u32, from: u32) -> Result<(RawProp, u32), ParseError>
+fn read_always(
+    alloc: Global,
+    symbols: &[Symbol],
+    room: u32,
+    from: u32,
+) -> Result<(RawProp, u32), ParseError>
     requires few { length symbols.now ≤ 1048576 }
     requires within { from ≤ length symbols.now }
     requires room { room ≤ 64 }
@@ -472,7 +602,12 @@ fn read_always(alloc: Global, symbols: &[Symbol], room: u32, from: u32) -> Resul
 /// A property.
 #[cycle(prop)]
 #[tactic(auto, using(crate::proofs::Loops::stopped), unfolding(crate::specs::inner::PropReaders::prop_with))]
-pub fn read_prop(alloc: Global, symbols: &[Symbol], room: u32, from: u32) -> Result<(RawProp, u32), ParseError>
+pub fn read_prop(
+    alloc: Global,
+    symbols: &[Symbol],
+    room: u32,
+    from: u32,
+) -> Result<(RawProp, u32), ParseError>
     requires few { length symbols.now ≤ 1048576 }
     requires within { from ≤ length symbols.now }
     requires room { room ≤ 64 }

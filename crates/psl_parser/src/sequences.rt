@@ -116,7 +116,12 @@ fn read_pick(symbols: &[Symbol], from: u32) -> Result<(RawRep, u32), ParseError>
 
 /// One more repetition behind a sequence.
 #[tactic(auto, using(crate::proofs::Loops::stopped), unfolding(crate::specs::inner::SereReaders::again_with))]
-fn read_again(alloc: Global, symbols: &[Symbol], sere: RawSere, mark: u32) -> Result<(RawSere, u32), ParseError>
+fn read_again(
+    alloc: Global,
+    symbols: &[Symbol],
+    sere: RawSere,
+    mark: u32,
+) -> Result<(RawSere, u32), ParseError>
     requires few { length symbols.now ≤ 1048576 }
     requires within { mark ≤ length symbols.now }
     ensures gives { Gives sere_read result (again_with symbols.now (sere_of sere, mark)) }
@@ -136,7 +141,12 @@ fn repeats(symbols: &[Symbol], place: u32) -> bool
 
 /// The repetitions of anything behind what they repeat.
 #[tactic(auto, using(crate::proofs::Loops::stopped), unfolding(crate::specs::inner::SereReaders::times_from))]
-fn read_repetitions(alloc: Global, symbols: &[Symbol], base: RawSere, end: u32) -> Result<(RawSere, u32), ParseError>
+fn read_repetitions(
+    alloc: Global,
+    symbols: &[Symbol],
+    base: RawSere,
+    end: u32,
+) -> Result<(RawSere, u32), ParseError>
     requires few { length symbols.now ≤ 1048576 }
     requires within { end ≤ length symbols.now }
     ensures gives { Gives sere_read result (times_from symbols.now (sere_of base, end)) }
@@ -159,7 +169,12 @@ fn read_repetitions(alloc: Global, symbols: &[Symbol], base: RawSere, end: u32) 
 
 /// The repetitions behind a bool.
 #[tactic(auto, using(crate::proofs::Loops::stopped), unfolding(crate::specs::inner::SereReaders::after_bool))]
-pub fn read_after_bool(alloc: Global, symbols: &[Symbol], expr: RawExpr, end: u32) -> Result<(RawSere, u32), ParseError>
+pub fn read_after_bool(
+    alloc: Global,
+    symbols: &[Symbol],
+    expr: RawExpr,
+    end: u32,
+) -> Result<(RawSere, u32), ParseError>
     requires few { length symbols.now ≤ 1048576 }
     requires within { end ≤ length symbols.now }
     ensures gives { Gives sere_read result (after_bool symbols.now (expr_of expr, end)) }
@@ -176,7 +191,13 @@ pub fn read_after_bool(alloc: Global, symbols: &[Symbol], expr: RawExpr, end: u3
 
 /// A bool with its repetitions.
 #[tactic(auto, using(crate::proofs::Loops::stopped), unfolding(crate::specs::inner::SereReaders::timed_in))]
-fn read_timed(alloc: Global, symbols: &[Symbol], room: u32, braced: bool, from: u32) -> Result<(RawSere, u32), ParseError>
+fn read_timed(
+    alloc: Global,
+    symbols: &[Symbol],
+    room: u32,
+    braced: bool,
+    from: u32,
+) -> Result<(RawSere, u32), ParseError>
     requires few { length symbols.now ≤ 1048576 }
     requires within { from ≤ length symbols.now }
     requires room { room ≤ 64 }
@@ -204,7 +225,12 @@ fn read_lone(symbols: &[Symbol], from: u32) -> Result<(RawSere, u32), ParseError
 /// A sequence of any operators inside one more open phrase.
 #[cycle(sere)]
 #[tactic(auto, unfolding(crate::specs::inner::SereReaders::cat_at))]
-fn open_cat(alloc: Global, symbols: &[Symbol], room: u32, from: u32) -> Result<(RawSere, u32), ParseError>
+fn open_cat(
+    alloc: Global,
+    symbols: &[Symbol],
+    room: u32,
+    from: u32,
+) -> Result<(RawSere, u32), ParseError>
     requires few { length symbols.now ≤ 1048576 }
     requires within { from ≤ length symbols.now }
     requires room { room ≤ 64 }
@@ -221,7 +247,13 @@ fn open_cat(alloc: Global, symbols: &[Symbol], room: u32, from: u32) -> Result<(
 /// A sequence whose operators are of so many levels above that of an elem.
 #[cycle(sere)]
 #[tactic(auto, using(crate::proofs::Loops::stopped), unfolding(crate::specs::inner::SereReaders::levels_above))]
-fn read_sere(alloc: Global, symbols: &[Symbol], room: u32, above: u32, from: u32) -> Result<(RawSere, u32), ParseError>
+fn read_sere(
+    alloc: Global,
+    symbols: &[Symbol],
+    room: u32,
+    above: u32,
+    from: u32,
+) -> Result<(RawSere, u32), ParseError>
     requires few { length symbols.now ≤ 1048576 }
     requires within { from ≤ length symbols.now }
     requires room { room ≤ 64 }
@@ -240,7 +272,14 @@ fn read_sere(alloc: Global, symbols: &[Symbol], room: u32, above: u32, from: u32
 /// What operators of one level join to a sequence that was read.
 #[cycle(sere)]
 #[tactic(auto, using(crate::proofs::Loops::stopped))]
-fn read_sere_joins(alloc: Global, symbols: &[Symbol], room: u32, above: u32, first: RawSere, end: u32) -> Result<(RawSere, u32), ParseError>
+fn read_sere_joins(
+    alloc: Global,
+    symbols: &[Symbol],
+    room: u32,
+    above: u32,
+    first: RawSere,
+    end: u32,
+) -> Result<(RawSere, u32), ParseError>
     requires few { length symbols.now ≤ 1048576 }
     requires within { end ≤ length symbols.now }
     requires room { room ≤ 64 }
@@ -267,7 +306,14 @@ fn read_sere_joins(alloc: Global, symbols: &[Symbol], room: u32, above: u32, fir
 /// An operator of sequences and its right operand, behind its left one.
 #[cycle(sere)]
 #[tactic(auto, using(crate::proofs::Loops::stopped), unfolding(crate::specs::inner::SereReaders::sere_join_with))]
-fn read_sere_join(alloc: Global, symbols: &[Symbol], room: u32, above: u32, left: RawSere, mark: u32) -> Result<(RawSere, u32), ParseError>
+fn read_sere_join(
+    alloc: Global,
+    symbols: &[Symbol],
+    room: u32,
+    above: u32,
+    left: RawSere,
+    mark: u32,
+) -> Result<(RawSere, u32), ParseError>
     requires few { length symbols.now ≤ 1048576 }
     requires within { mark ≤ length symbols.now }
     requires room { room ≤ 64 }
@@ -293,7 +339,12 @@ fn sere_joins(symbols: &[Symbol], above: u32, place: u32) -> bool
 /// What operators join inside braces, with its repetitions.
 #[cycle(sere)]
 #[tactic(auto, using(crate::proofs::Loops::stopped), unfolding(crate::specs::inner::SereReaders::elem_with))]
-fn read_elem(alloc: Global, symbols: &[Symbol], room: u32, from: u32) -> Result<(RawSere, u32), ParseError>
+fn read_elem(
+    alloc: Global,
+    symbols: &[Symbol],
+    room: u32,
+    from: u32,
+) -> Result<(RawSere, u32), ParseError>
     requires few { length symbols.now ≤ 1048576 }
     requires within { from ≤ length symbols.now }
     requires room { room ≤ 64 }
@@ -310,7 +361,12 @@ fn read_elem(alloc: Global, symbols: &[Symbol], room: u32, from: u32) -> Result<
 /// A sequence that is no bool, with its repetitions.
 #[cycle(sere)]
 #[tactic(auto, using(crate::proofs::Loops::stopped), unfolding(crate::specs::inner::SereReaders::tight_with))]
-pub fn read_tight(alloc: Global, symbols: &[Symbol], room: u32, from: u32) -> Result<(RawSere, u32), ParseError>
+pub fn read_tight(
+    alloc: Global,
+    symbols: &[Symbol],
+    room: u32,
+    from: u32,
+) -> Result<(RawSere, u32), ParseError>
     requires few { length symbols.now ≤ 1048576 }
     requires within { from ≤ length symbols.now }
     requires room { room ≤ 64 }
@@ -325,7 +381,12 @@ pub fn read_tight(alloc: Global, symbols: &[Symbol], room: u32, from: u32) -> Re
 /// What the repetitions follow in a sequence that is no bool.
 #[cycle(sere)]
 #[tactic(auto, using(crate::proofs::Loops::stopped), unfolding(crate::specs::inner::SereReaders::base_with))]
-fn read_base(alloc: Global, symbols: &[Symbol], room: u32, from: u32) -> Result<(RawSere, u32), ParseError>
+fn read_base(
+    alloc: Global,
+    symbols: &[Symbol],
+    room: u32,
+    from: u32,
+) -> Result<(RawSere, u32), ParseError>
     requires few { length symbols.now ≤ 1048576 }
     requires within { from ≤ length symbols.now }
     requires room { room ≤ 64 }
@@ -345,7 +406,12 @@ fn read_base(alloc: Global, symbols: &[Symbol], room: u32, from: u32) -> Result<
 /// A sequence in braces.
 #[cycle(sere)]
 #[tactic(auto, using(crate::proofs::Loops::stopped), unfolding(crate::specs::inner::SereReaders::braces_with))]
-fn read_braces(alloc: Global, symbols: &[Symbol], room: u32, from: u32) -> Result<(RawSere, u32), ParseError>
+fn read_braces(
+    alloc: Global,
+    symbols: &[Symbol],
+    room: u32,
+    from: u32,
+) -> Result<(RawSere, u32), ParseError>
     requires few { length symbols.now ≤ 1048576 }
     requires within { from ≤ length symbols.now }
     requires room { room ≤ 64 }

@@ -97,10 +97,7 @@ pub fn sere_level(symbol: Symbol) -> u32
     ensures { result ≡ sere_level symbol }
 {
     match symbol {
-        Symbol::RepeatOpen
-        | Symbol::RepeatPlus
-        | Symbol::GotoOpen
-        | Symbol::EqualRepeatOpen => 0,
+        Symbol::RepeatOpen | Symbol::RepeatPlus | Symbol::GotoOpen | Symbol::EqualRepeatOpen => 0,
         Symbol::Within => 2,
         Symbol::And | Symbol::AndAnd => 3,
         Symbol::Or => 4,

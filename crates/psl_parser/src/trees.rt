@@ -78,12 +78,7 @@ pub fn prefixed(alloc: Global, word: u32, body: RawProp) -> Result<RawProp, Allo
     Ok(RawProp::Prefix { word, body })
 }
 
-pub fn later(
-    alloc: Global,
-    word: u32,
-    form: NextForm,
-    body: RawProp,
-) -> Result<RawProp, AllocError>
+pub fn later(alloc: Global, word: u32, form: NextForm, body: RawProp) -> Result<RawProp, AllocError>
     ensures { IfOk result (λ p. prop_of p
         ≡ prop_tree.next word (on_of form.on) form.low form.high (prop_of body)) }
 {

@@ -161,7 +161,12 @@ fn read_items(
 
 /// The end of a unit behind its items.
 #[tactic(auto, unfolding(crate::specs::inner::UnitReaders::unit_end))]
-fn close_unit(text: &[u8], tokens: &[Token], items: Vec<RawItem>, to: u32) -> Result<RawUnit, ParseError>
+fn close_unit(
+    text: &[u8],
+    tokens: &[Token],
+    items: Vec<RawItem>,
+    to: u32,
+) -> Result<RawUnit, ParseError>
     requires few { length tokens.now ≤ 1048576 }
     requires place { to ≤ length tokens.now }
     ensures gives { Gives unit_of result (unit_end text.now tokens.now (map item_of items.items, to)) }

@@ -1,5 +1,5 @@
 -- What is read of expressions. `N` bounds how often a loop turns.
-use Rattle.std.specs.Prelude.{ℕ, zero, suc, ◌+◌, Bool, false, nat_eq, nat_lt, List, length, Option, Some, None}
+use Rattle.std.specs.Prelude.{ℕ, zero, suc, ◌+◌, Bool, false, nat_eq, nat_lt, List, length, Some, None}
 use Rattle.psl_grammar.specs.declared.symbols.Symbol.{Symbol}
 use Rattle.psl_grammar.specs.declared.symbols.Symbol.TheVariants as symbol
 use Rattle.psl_grammar.specs.Symbols.{symbol_at, level_at, is_prefix, is_literal}

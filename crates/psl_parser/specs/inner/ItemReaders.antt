@@ -1,5 +1,5 @@
 -- What is read of items.
-use Rattle.std.specs.Prelude.{ℕ, zero, suc, ◌+◌, ◌-◌, Bool, true, false, nat_le, List, [], ◌∷◌, ◌++◌, length, Option, Some, None}
+use Rattle.std.specs.Prelude.{ℕ, suc, ◌+◌, ◌-◌, Bool, true, nat_le, List, [], ◌∷◌, ◌++◌, length, Option, Some, None}
 use Rattle.psl_grammar.specs.declared.symbols.Symbol.{Symbol}
 use Rattle.psl_grammar.specs.declared.symbols.Symbol.TheVariants as symbol
 use Rattle.psl_grammar.specs.Symbols.{symbol_at, is_name}

@@ -1,5 +1,5 @@
 -- What is read of properties, one function a kind of phrase. `inner` reads in one more open phrase.
-use Rattle.std.specs.Prelude.{ℕ, zero, suc, ◌+◌, ◌-◌, Bool, true, false, ◌||◌, not, List, length, Option, Some, None}
+use Rattle.std.specs.Prelude.{ℕ, zero, suc, ◌+◌, ◌-◌, Bool, true, false, ◌||◌, List, length, Option, Some, None}
 use Rattle.psl_grammar.specs.declared.symbols.Symbol.{Symbol}
 use Rattle.psl_grammar.specs.declared.symbols.Symbol.TheVariants as symbol
 use Rattle.psl_grammar.specs.Symbols.{symbol_at, begins_sequence, is_pick}
@@ -12,7 +12,7 @@ use Rattle.psl_grammar.specs.PropGrammar.{Phrase}
 use Rattle.psl_parser.specs.inner.Steps.{◌>>=◌, need, either_way, is_at, Read, loop}
 use Rattle.psl_parser.specs.inner.ExprReaders.{levels_with, operand_in, choice_at, branches_with, bool_in}
 use Rattle.psl_parser.specs.inner.SereReaders.{is_times, after_bool, tight_in}
-use Rattle.psl_parser.specs.inner.FormReaders.{Form, is_next, form_in}
+use Rattle.psl_parser.specs.inner.FormReaders.{is_next, form_in}
 
 -- `!` before a phrase, and `&&` or `||` between two, of any kind
 abbrev pub negation : (mark : ℕ) → RawProp → RawProp

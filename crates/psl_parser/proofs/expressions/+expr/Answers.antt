@@ -1,8 +1,8 @@
-use Rattle.std.proofs.Common.{◌≡◌, ◌<◌, ◌-◌, suc, sym, ap, ◌∙◌, length, arith}
+use Rattle.std.proofs.Common.{◌≡◌, ◌<◌, ◌-◌, suc, ap, ◌∙◌, length, arith}
 use Rattle.psl_grammar.specs.View.{expr_of}
 use Rattle.psl_parser.specs.inner.ReadViews.{expr_read}
 use Rattle.psl_parser.specs.inner.Steps.{◌>>=◌, loop}
-use Rattle.psl_parser.specs.inner.ExprReaders.{operand_in, joins, join_with, levels_with, joined_with}
+use Rattle.psl_parser.specs.inner.ExprReaders.{operand_in, joins, join_with, joined_with}
 use Rattle.psl_parser.proofs.Loops.{gives_as, halt, turn, stop}
 use Rattle.psl_parser.proofs.Levels.{level_step}
 use Rattle.psl_parser.proofs.expressions.+expr.Goals as goal
@@ -27,9 +27,9 @@ pub read_levels-returns-clause-gives : goal.read_levels-returns-clause-gives
 read_levels-returns-clause-gives t c =
     let lower : c.args.level ≡ suc (c.args.level - 1) = omega arith in
     let first = level_step c.args.symbols.now (operand_in c.args.symbols.now c.args.room) c.args.braced
-        c.args.level (c.args.level - 1) lower (expr_of c.args.operand, c.args.end) in
+    c.args.level (c.args.level - 1) lower (expr_of c.args.operand, c.args.end) in
     gives_as expr_read c.read_joins.result _ _
     (first ∙ ap (λ o. o >>= loop (joins c.args.symbols.now c.args.braced c.args.level)
-        (join_with c.args.symbols.now (joined_with c.args.symbols.now (operand_in c.args.symbols.now c.args.room) c.args.braced (c.args.level - 1)))
-        (suc (length c.args.symbols.now))) c.in_ok-left.ensures.gives)
+    (join_with c.args.symbols.now (joined_with c.args.symbols.now (operand_in c.args.symbols.now c.args.room) c.args.braced (c.args.level - 1)))
+    (suc (length c.args.symbols.now))) c.in_ok-left.ensures.gives)
     c.read_joins.ensures.gives

@@ -1,4 +1,4 @@
-use Rattle.std.proofs.Common.{◌+◌, ◌*◌, ◌-◌, ◌≡◌, ◌≤◌, ℕ, suc, length}
+use Rattle.std.proofs.Common.{◌+◌, ◌*◌, ◌-◌, ◌≤◌, suc, length}
 use Rattle.psl_grammar.specs.View.{expr_of}
 use Rattle.psl_parser.specs.inner.Steps.{loop}
 use Rattle.psl_parser.specs.inner.ExprReaders.{operand_in, joins, join_with, joined_with}

@@ -27,9 +27,9 @@ pub read_sere-returns-clause-gives : goal.read_sere-returns-clause-gives
 read_sere-returns-clause-gives t c =
     let lower : c.args.above ≡ suc (c.args.above - 1) = omega arith in
     let first = above_step c.args.symbols.now (elem_in c.args.symbols.now c.args.room) c.args.above (c.args.above - 1) lower
-        c.args.from in
+    c.args.from in
     gives_as sere_read c.read_sere_joins.result _ _
     (first ∙ ap (λ o. o >>= loop (sere_joins c.args.symbols.now (suc c.args.above))
-        (sere_join_with c.args.symbols.now (levels_above c.args.symbols.now (elem_in c.args.symbols.now c.args.room) (c.args.above - 1)))
-        (suc (length c.args.symbols.now))) c.in_ok-left.ensures.gives)
+    (sere_join_with c.args.symbols.now (levels_above c.args.symbols.now (elem_in c.args.symbols.now c.args.room) (c.args.above - 1)))
+    (suc (length c.args.symbols.now))) c.in_ok-left.ensures.gives)
     c.read_sere_joins.ensures.gives

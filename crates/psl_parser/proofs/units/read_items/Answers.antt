@@ -1,4 +1,4 @@
-use Rattle.std.proofs.Common.{◌≡◌, ◌<◌, ◌≤◌, ◌++◌, ◌∷◌, [], ℕ, false, true, List, length, Some, sym, subst, arith}
+use Rattle.std.proofs.Common.{◌≡◌, ◌<◌, ◌≤◌, [], false, true, List, length, Some, sym, subst, arith}
 use Rattle.std.specs.Prelude.{map}
 use Rattle.psl_grammar.specs.RawUnit as raw
 use Rattle.psl_grammar.specs.UnitView.{item_of}
@@ -27,7 +27,7 @@ pub returns-in-Err-read_step-clause-gives : goal.returns-in-Err-read_step-clause
 returns-in-Err-read_step-clause-gives c =
     let known = c.items.invariant.0.0 in
     let open_brace : is_at (outside c.args.text.now c.args.tokens.now) c.items.to CloseBrace ≡ false =
-        subst (λ (l : List Symbol). is_at l c.items.to CloseBrace ≡ false) c.requires.plain (sym c.items-test.ensures) in
+    subst (λ (l : List Symbol). is_at l c.items.to CloseBrace ≡ false) c.requires.plain (sym c.items-test.ensures) in
     way_halts c.args.text.now c.args.tokens.now c.in-Err-read_step.error c.args.from known (map item_of c.items.items.items) c.items.to
     c.items.invariant.0.2 c.items.invariant.1 open_brace
     (subst (λ (l : List Symbol). Halts c.in-Err-read_step.error (short_at l c.items.to)) c.items.invariant.0.1
@@ -37,14 +37,14 @@ pub items-preserved : goal.items-preserved
 items-preserved c =
     let known = c.items.invariant.0.0 in
     let open_brace : is_at (outside c.args.text.now c.args.tokens.now) c.items.to CloseBrace ≡ false =
-        subst (λ (l : List Symbol). is_at l c.items.to CloseBrace ≡ false) c.requires.plain (sym c.items-test.ensures) in
+    subst (λ (l : List Symbol). is_at l c.items.to CloseBrace ≡ false) c.requires.plain (sym c.items-test.ensures) in
     let long = long_symbols c.args.text.now c.args.tokens.now known c.items.symbols.items c.items.invariant.0.1 in
     let some : c.items.to < c.in-Ok-read_step.after = c.in-Ok-read_step.ensures.some in
     let end : c.in-Ok-read_step.after ≤ length c.items.symbols.items = c.in-Ok-read_step.ensures.end in
     let item = item_of c.in-Ok-read_step.item in
     let read : short_at (symbols_in c.args.text.now known c.args.tokens.now) c.items.to ≡ Some (item, c.in-Ok-read_step.after) =
-        subst (λ (l : List Symbol). short_at l c.items.to ≡ Some (item_of c.in-Ok-read_step.item, c.in-Ok-read_step.after))
-        c.items.invariant.0.1 c.in-Ok-read_step.ensures.item in
+    subst (λ (l : List Symbol). short_at l c.items.to ≡ Some (item_of c.in-Ok-read_step.item, c.in-Ok-read_step.after))
+    c.items.invariant.0.1 c.in-Ok-read_step.ensures.item in
     let within : c.items.to < length c.args.tokens.now = omega arith in (
       (
         known_after c.args.text.now c.args.tokens.now known item,
@@ -60,6 +60,6 @@ items-preserved c =
 pub returns-clause-gives : goal.returns-clause-gives
 returns-clause-gives c =
     let close : is_at (outside c.args.text.now c.args.tokens.now) c.items.to CloseBrace ≡ true =
-        subst (λ (l : List Symbol). is_at l c.items.to CloseBrace ≡ true) c.requires.plain (sym c.items-test.ensures) in
+    subst (λ (l : List Symbol). is_at l c.items.to CloseBrace ≡ true) c.requires.plain (sym c.items-test.ensures) in
     way_ends c.args.text.now c.args.tokens.now c.args.from c.items.invariant.0.0 (map item_of c.items.items.items) c.items.to
     c.items.invariant.0.2 close
