@@ -5,7 +5,7 @@ use Rattle.psl_grammar.specs.declared.symbols.Symbol.TheVariants.{End, Name, Num
 use Rattle.psl_grammar.specs.Symbols.{symbol_at, At, after_level, level_at, may_join, begins_sequence, joins_sequences, is_prefix, is_literal}
 use Rattle.psl_grammar.specs.RawExpr.{RawExpr}
 use Rattle.psl_grammar.specs.ExprGrammar.{IsExpr, whole, bit, part, literally, parens, prefixed, joined, chosen, looser}
-use Rattle.psl_parser.proofs.Tests.{there}
+use Rattle.psl_parser.proofs.SymbolTests.{there}
 
 module _ (symbols : List Symbol) where
   literal_end : (s : Symbol) → IsTrue (is_literal s) → s ≡ End → ⊥

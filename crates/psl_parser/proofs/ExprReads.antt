@@ -9,7 +9,7 @@ use Rattle.psl_grammar.specs.ExprGrammar.{IsExpr, whole, bit, part, literally, p
 use Rattle.psl_grammar.specs.PropGrammar.{IsParen, paren}
 use Rattle.psl_parser.specs.inner.Steps.{◌>>=◌, need, is_at, Read}
 use Rattle.psl_parser.specs.inner.ExprReaders.{part_at, select_at, name_at, paren_with, prefix_with, operand_with, joins, join_with, levels_with, joined_with, branches_with, choice_with, operand_at, choice_at, operand_in, choice_in}
-use Rattle.psl_parser.proofs.Tests.{is_same, bound, needed, one_way, given, loop_reads}
+use Rattle.psl_parser.proofs.SymbolTests.{is_same, bound, needed, one_way, given, loop_reads}
 use Rattle.psl_parser.proofs.ExprFacts.{level_real}
 
 module _ (symbols : List Symbol) where

@@ -10,7 +10,7 @@ use Rattle.psl_grammar.specs.RawExpr.{RawExpr, name, literal, unary, binary, cho
 use Rattle.psl_grammar.specs.ExprGrammar.{IsExpr, IsBool, Ends, whole, bit, part, literally, parens, prefixed, joined, chosen, looser}
 use Rattle.psl_parser.specs.inner.Steps.{◌>>=◌, need, either_way, is_at, loop}
 use Rattle.psl_parser.specs.inner.ExprReaders.{part_at, select_at, name_at, paren_with, prefix_with, operand_with, joins, join_with, levels_with, joined_with, branches_with, choice_with, operand_at, choice_at, operand_in, choice_in, bool_in}
-use Rattle.psl_parser.proofs.Tests.{is_self, is_other}
+use Rattle.psl_parser.proofs.SymbolTests.{is_self, is_other}
 use Rattle.psl_parser.proofs.Loops.{Turns, stops, turns}
 use Rattle.psl_parser.proofs.Levels.{joined_again}
 use Rattle.psl_parser.proofs.ExprFacts.{bounds, begins_apart, level_plain, question_level, bracket_level}

@@ -15,7 +15,7 @@ use Rattle.psl_parser.specs.inner.Steps.{◌>>=◌, is_at}
 use Rattle.psl_parser.specs.inner.FormReaders.{range_end}
 use Rattle.psl_parser.specs.inner.PropReaders.{sequence_of}
 use Rattle.psl_parser.specs.inner.ItemReaders.{comma_at, name_after, names_at, whole_prop, as_seq, whole_seq, report_at, clock_parens_at, clock_at, wire_end, wire_at, sequence_end, sequence_at, property_end, property_at, assert_end, labelled_at, item_at}
-use Rattle.psl_parser.proofs.Tests.{bound, needed, one_way, given, loop_reads}
+use Rattle.psl_parser.proofs.SymbolTests.{bound, needed, one_way, given, loop_reads}
 use Rattle.psl_parser.proofs.PropReads.{at, range_read, seq_from}
 use Rattle.psl_parser.proofs.PropSound.{prop_is}
 

@@ -15,7 +15,7 @@ use Rattle.psl_grammar.specs.ItemGrammar as g
 use Rattle.psl_parser.specs.inner.Steps.{◌>>=◌, is_at, Read}
 use Rattle.psl_parser.specs.inner.FormReaders.{range_end}
 use Rattle.psl_parser.specs.inner.ItemReaders.{comma_at, name_after, names_at, whole_prop, as_seq, whole_seq, report_at, clock_parens_at, clock_at, wire_end, wire_at, sequence_end, sequence_at, property_end, property_at, assert_end, labelled_at, item_at}
-use Rattle.psl_parser.proofs.Tests.{there, is_other}
+use Rattle.psl_parser.proofs.SymbolTests.{there, is_other}
 use Rattle.psl_parser.proofs.Loops.{Turns, stops, turns}
 use Rattle.psl_parser.proofs.ExprSpells.{this_way, that_way, has, then, at}
 use Rattle.psl_parser.proofs.PropFacts.{follow, apart, seq_end, prop_some}

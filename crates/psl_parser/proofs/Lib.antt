@@ -1,6 +1,6 @@
 pub mod Loops
 pub mod Levels
-pub mod Tests
+pub mod SymbolTests
 pub mod ExprFacts
 pub mod ExprReads
 pub mod ExprSpells

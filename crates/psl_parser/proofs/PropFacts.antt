@@ -14,7 +14,7 @@ use Rattle.psl_grammar.specs.PropGrammar as g
 use Rattle.psl_parser.specs.inner.Steps.{is, is_at}
 use Rattle.psl_parser.specs.inner.SereReaders.{is_times}
 use Rattle.psl_parser.specs.inner.PropReaders.{is_rep}
-use Rattle.psl_parser.proofs.Tests.{there, is_other}
+use Rattle.psl_parser.proofs.SymbolTests.{there, is_other}
 use Rattle.psl_parser.proofs.ExprFacts as expr
 use Rattle.psl_parser.proofs.SereFacts.{ends_times, ends_pick, timed_bounds, sere_bounds, tight_begins}
 

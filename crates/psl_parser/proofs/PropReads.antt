@@ -17,7 +17,7 @@ use Rattle.psl_parser.specs.inner.ExprReaders.{choice_at, operand_in, levels_wit
 use Rattle.psl_parser.specs.inner.SereReaders.{is_times, repeated, times_at, times_go, again_with, times_from, pick_at, after_bool}
 use Rattle.psl_parser.specs.inner.FormReaders.{Form, count_end, range_end, on_in, next_at, next_range_at, event_count_at, event_range_at, form_in}
 use Rattle.psl_parser.specs.inner.PropReaders.{combination, is_rep, as_bool, marked, tighter_of, branches_of, times_of, abort_with, goes_at, aborts_from, settled}
-use Rattle.psl_parser.proofs.Tests.{is_same, is_self, bound, needed, one_way, given, loop_reads}
+use Rattle.psl_parser.proofs.SymbolTests.{is_same, is_self, bound, needed, one_way, given, loop_reads}
 use Rattle.psl_parser.proofs.ExprReads.{levels_are, branches_are, paren_is}
 use Rattle.psl_parser.proofs.SereReads.{bool_read, after_read}
 use Rattle.psl_parser.proofs.SereFacts.{times_are}

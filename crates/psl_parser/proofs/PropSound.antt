@@ -14,7 +14,7 @@ use Rattle.psl_parser.specs.inner.ExprReaders.{operand_in}
 use Rattle.psl_parser.specs.inner.SereReaders.{tight_in}
 use Rattle.psl_parser.specs.inner.FormReaders.{form_in}
 use Rattle.psl_parser.specs.inner.PropReaders.{negation, as_bool, prefixed as prefix_read, joined as joined_read, combined, marked, tighter_of, goes_at, negation_with, paren_prop_with, atom_with, factor_with, and_with, both_with, or_with, either_with, abt_with, eventually_with, next_with, occ_with, until_with, untl_with, suffix_of, suffix_with, suff_with, implied_with, impl_with, always_with, prop_with, phrase_with, prop_at}
-use Rattle.psl_parser.proofs.Tests.{bound, needed, one_way, given, loop_reads}
+use Rattle.psl_parser.proofs.SymbolTests.{bound, needed, one_way, given, loop_reads}
 use Rattle.psl_parser.proofs.ExprReads.{operand_is}
 use Rattle.psl_parser.proofs.SereReads.{tight_is}
 use Rattle.psl_parser.proofs.PropReads.{at, HdlIs, tighter_read, factor_both, both_either, and_case, or_case, settled_read, form_read, bool_from, seq_from}

@@ -18,7 +18,7 @@ use Rattle.psl_parser.specs.inner.ExprReaders.{paren_with, prefix_with, operand_
 use Rattle.psl_parser.specs.inner.SereReaders.{is_times, times_go, times_from, after_bool, timed_in, tight_in}
 use Rattle.psl_parser.specs.inner.FormReaders.{Form, is_next, count_end, range_end, on_in, next_at, next_range_at, event_count_at, event_range_at, form_in}
 use Rattle.psl_parser.specs.inner.PropReaders.{negation, combination, is_rep, as_bool, prefixed as prefix_read, joined as joined_read, combined, marked, tighter_of, branches_of, times_of, abort_with, goes_at, aborts_from, settled, negation_with, paren_prop_with, atom_with, factor_with, and_with, both_with, or_with, either_with, abt_with, eventually_with, next_with, occ_with, until_with, untl_with, suffix_of, suffix_with, suff_with, implied_with, impl_with, always_with, prop_with, phrase_with, prop_at}
-use Rattle.psl_parser.proofs.Tests.{is_same, is_other, bound, needed, one_way, given}
+use Rattle.psl_parser.proofs.SymbolTests.{is_same, is_other, bound, needed, one_way, given}
 use Rattle.psl_parser.proofs.Loops.{Turns, stops, turns}
 use Rattle.psl_parser.proofs.ExprReads.{choice_is}
 use Rattle.psl_parser.proofs.ExprSpells.{this_way, that_way, has, then, at, not_at, level_read, spelled as expr_spelled, choice_spelled, bool_spelled, paren_read, inner_choice, close_ends, colon_ends}

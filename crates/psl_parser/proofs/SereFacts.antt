@@ -8,7 +8,7 @@ use Rattle.psl_grammar.specs.SereGrammar.{IsCounts, single, range, IsTimes, any,
 use Rattle.psl_grammar.specs.SereGrammar as grammar
 use Rattle.psl_parser.specs.inner.Steps.{is}
 use Rattle.psl_parser.specs.inner.SereReaders.{is_times}
-use Rattle.psl_parser.proofs.Tests.{there, is_same, is_self}
+use Rattle.psl_parser.proofs.SymbolTests.{there, is_same, is_self}
 use Rattle.psl_parser.proofs.ExprFacts as expr
 use Rattle.psl_parser.proofs.ExprFacts.{begins_apart}
 

@@ -15,7 +15,7 @@ use Rattle.psl_grammar.specs.SereGrammar as grammar
 use Rattle.psl_parser.specs.inner.Steps.{◌>>=◌, is_at}
 use Rattle.psl_parser.specs.inner.ExprReaders.{bool_in}
 use Rattle.psl_parser.specs.inner.SereReaders.{rep, repeated, range_end_at, counts_at, counted_at, times_at, pick_at, times_go, again_with, times_from, after_bool, timed_in, braces_with, lone_at, base_with, tight_with, elem_with, sere_joins, sere_join_with, levels_above, cat_at, elem_in, tight_in}
-use Rattle.psl_parser.proofs.Tests.{is_same, bound, needed, one_way, given, loop_reads}
+use Rattle.psl_parser.proofs.SymbolTests.{is_same, bound, needed, one_way, given, loop_reads}
 use Rattle.psl_parser.proofs.ExprReads.{choice_is}
 
 module _ (symbols : List Symbol) where

@@ -12,7 +12,7 @@ use Rattle.psl_grammar.specs.SereGrammar.{IsCounts, single, range, IsTimes, any,
 use Rattle.psl_grammar.specs.SereGrammar as grammar
 use Rattle.psl_parser.specs.inner.Steps.{◌>>=◌, need, is_at, Read, loop}
 use Rattle.psl_parser.specs.inner.SereReaders.{rep, repeated, range_end_at, counts_at, counted_at, times_at, pick_at, times_go, again_with, times_from, after_bool, timed_in, braces_with, lone_at, base_with, tight_with, elem_with, sere_joins, sere_join_with, levels_above, cat_at, elem_in, tight_in}
-use Rattle.psl_parser.proofs.Tests.{is_other}
+use Rattle.psl_parser.proofs.SymbolTests.{is_other}
 use Rattle.psl_parser.proofs.Loops.{Turns, stops, turns}
 use Rattle.psl_parser.proofs.ExprSpells.{this_way, that_way, has, then, at, bool_spelled}
 use Rattle.psl_parser.proofs.SereFacts.{times_begin, times_no_pick, times_bounds, pick_begin, timed_bounds, timed_apart, sere_bounds, tight_begins, ends_times, ends_pick, no_level_one}

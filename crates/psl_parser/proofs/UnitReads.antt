@@ -21,7 +21,7 @@ use Rattle.psl_parser.specs.Units as units
 use Rattle.psl_parser.specs.inner.Steps.{◌>>=◌, need, is_at, Read}
 use Rattle.psl_parser.specs.inner.ItemReaders.{is_short, item_at}
 use Rattle.psl_parser.specs.inner.UnitReaders.{short_at, short_item, items_from, items_at, unit_end, bound_unit, unit_read}
-use Rattle.psl_parser.proofs.Tests.{is_same, is_self, is_other, bound, needed, one_way, given, there}
+use Rattle.psl_parser.proofs.SymbolTests.{is_same, is_self, is_other, bound, needed, one_way, given, there}
 use Rattle.psl_parser.proofs.ExprSpells.{this_way, that_way, has, then, at}
 use Rattle.psl_parser.proofs.ItemReads.{item_read}
 use Rattle.psl_parser.proofs.ItemSpells.{item_spelled, item_some, item_within, item_starts}
