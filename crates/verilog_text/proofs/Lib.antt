@@ -3,3 +3,12 @@ pub mod Joins
 pub mod Numbered
 pub mod Places
 pub mod SmallChecker
+pub mod Tables
+pub mod Numbering
+pub mod WireOrder
+pub mod Settle
+pub mod OneRun
+pub mod NodeValues
+pub mod KeptStream
+pub mod Lawfulness
+pub mod Translating
