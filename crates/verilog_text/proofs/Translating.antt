@@ -6,6 +6,7 @@ use Rattle.std.proofs.lemmas.Option.{slice_get_within}
 use Rattle.std.specs.Prelude.{All, slice_get, Option, IsSomeAnd}
 use Rattle.psl_model.specs.Expr.{Expr, whole, bit, part, plain, sized, unary, binary, choice}
 use Rattle.psl_model.specs.Valid.{IsValid}
+use Rattle.psl_model.specs.declared.names.Signal.{Signal}
 use Rattle.circuit_core.specs.Netlist as net
 use Rattle.circuit_core.specs.Netlist.{Op, eot, guard, not, and, or, register, Node, Netlist, IsNet}
 use Rattle.circuit_core.specs.WellMade.{IsOpAt, IsFinished}
@@ -99,3 +100,15 @@ has_registers m face = each m.registers where
       ≡ map {B = ℕ × ℕ} (λ (x : net.Register). (x.width, x.initial)) xs
   each [] = refl
   each (x ∷ xs) = let one : ℕ × ℕ = (x.width, x.initial) in ap (λ (ys : List (ℕ × ℕ)). one ∷ ys) (each xs)
+
+pub has_room : (m : Netlist) (ports watched : List Signal) (rs ws : ℕ) → watched ≡ ports →
+    port_widths ports ≡ m.widths → rs ≡ first_register watched → ws ≡ first_wire m watched →
+    ws + length m.nodes ≤ 2 ^ 64 → 2 + length watched ≤ 2 ^ 64 → HasRoom m rs ws
+has_room m ports watched rs ws same widths registers wires last most =
+    let count : length m.widths ≡ length watched =
+        sym (ap length widths) ∙ length-map ports (λ p. p.width) ∙ sym (ap length same) in
+    record {
+      signals = omega (arith, count, most);
+      registers = omega (arith, registers, wires);
+      wires = last;
+    }
