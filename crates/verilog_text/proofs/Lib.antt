@@ -2,6 +2,7 @@ pub mod Growth
 pub mod Joins
 pub mod Numbered
 pub mod Places
+pub mod PortNames
 pub mod SmallChecker
 pub mod Tables
 pub mod Numbering

@@ -8,6 +8,8 @@ pub mod laws;
 mod making;
 mod module;
 mod names;
+#[cfg(test)]
+mod netlist_tests;
 mod printing;
 #[cfg(test)]
 mod tests;
