@@ -200,7 +200,8 @@ goes_on m finished face c x next one is settled reset e =
     let table = widths_of (module_for m face) in
     let context = max x.width (width_of table (right_side (register_of (first_wire m face.ports) x))) in
     ap (chosen m face c x) reset
-    ∙ ap (λ (o : Option ℕ). value_of table (values_of c) context (net_value (first_wire m face.ports) o) % 2 ^ x.width) e
+    ∙ ap (λ (o : Option ℕ). value_of table (values_of c) context (net_value (first_wire m face.ports) o) % 2 ^ x.width)
+    e
     ∙ ap (λ n. n % 2 ^ x.width) (at_wire m face c next is)
     ∙ ap (λ w. slice_index c.wires next % 2 ^ w) one
     ∙ small (slice_index c.wires next) (wire_bits m finished face c settled next)

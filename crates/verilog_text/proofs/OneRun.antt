@@ -129,7 +129,8 @@ have m before (v ∷ inputs) (e ∷ eots) same = (
   )
 
 run : ReadsItsOwn → (m : Module) → IsLawful m → (before : Cycle) (inputs : List (List ℕ)) (eots : List ℕ) →
-    IsSettled m before → All (FitWidths (port_widths m.ports)) inputs → IsRun m (before ∷ cycles_of m before inputs eots)
+    IsSettled m before → All (FitWidths (port_widths m.ports)) inputs →
+    IsRun m (before ∷ cycles_of m before inputs eots)
 run law m lawful before [] eots settled fits = settled
 run law m lawful before (v ∷ inputs) [] settled fits = settled
 run law m lawful before (v ∷ inputs) (e ∷ eots) settled fits =
@@ -141,7 +142,8 @@ run law m lawful before (v ∷ inputs) (e ∷ eots) settled fits =
 
 pub has_run : ReadsItsOwn → (m : Module) → IsLawful m → (eot : ℕ) (values state : List ℕ) →
     (inputs : List (List ℕ)) (eots : List ℕ) → eot < 2 → FitsModule m values state → AreInputs m inputs eots →
-    (reset : Cycle) × (cycles : List Cycle) × HasState 1 eot values state reset × IsRunFromReset m inputs eots reset cycles
+    (reset : Cycle) × (cycles : List Cycle) × HasState 1 eot values state reset
+    × IsRunFromReset m inputs eots reset cycles
 has_run law m lawful eot values state inputs eots bit fits are =
     let reset = cycle_of m 1 eot values state in (
       reset,

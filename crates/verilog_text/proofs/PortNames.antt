@@ -1,6 +1,6 @@
 -- The names `a` and `b` are usable, and the ports of the tests may be those of a module.
-use Rattle.std.proofs.Common.{◌≡◌, ℕ, zero, suc, ◌≤◌, true, Bool, List, [], ◌∷◌, refl, arith}
-use Rattle.std.specs.Prelude.{◌≢◌, not, bytes_eq, Contains, codes, All, AllPairs, Option, IfSome, length, map, nat_eq}
+use Rattle.std.proofs.Common.{◌≡◌, ℕ, zero, suc, ◌≤◌, true, Bool, List, [], ◌∷◌, refl, ap, arith}
+use Rattle.std.specs.Prelude.{◌≢◌, not, bytes_eq, Contains, codes, All, AllPairs, Option, IfSome, length, map, nat_eq, slice_index}
 use Rattle.std.specs.List.{list_all, starts_with}
 use Rattle.std.proofs.lemmas.List.Elements.{All-contains}
 use Rattle.std.proofs.lemmas.List.Sums.{AllPass-from_list_all}
@@ -73,7 +73,7 @@ are_ports (suc zero) d lt = record { name = b_is_usable; width = (omega arith, o
 are_ports (suc (suc k)) d lt = absurd (omega arith)
 
 distinct : AllPairs (λ p q. p ≢ q) (codes "a" ∷ codes "b" ∷ [])
-distinct zero (suc zero) d lt within = λ e. cc
+distinct zero (suc zero) d lt within = λ e. omega (arith, ap (λ (name : List ℕ). slice_index name 0) e)
 distinct zero zero d lt within = absurd (omega arith)
 distinct zero (suc (suc j)) d lt within = absurd (omega arith)
 distinct (suc i) zero d lt within = absurd (omega arith)

@@ -59,7 +59,8 @@ mapped_below f (y ∷ xs) bound (suc k) positive small =
 pub all_below : (xs : List ℕ) (bound k : ℕ) → 0 < bound → All (λ x. x < bound) xs → slice_index xs k < bound
 all_below [] bound k positive small = positive
 all_below (x ∷ xs) bound zero positive small = small 0 0 (omega arith)
-all_below (x ∷ xs) bound (suc k) positive small = all_below xs bound k positive (λ j d lt. small (suc j) d (omega arith))
+all_below (x ∷ xs) bound (suc k) positive small =
+    all_below xs bound k positive (λ j d lt. small (suc j) d (omega arith))
 
 pub some_mapped : {X Y : Type 0} (f : X → Y) (xs : List X) (k : ℕ) (P : Y → Type 0) →
     ((x : X) → slice_get xs k ≡ Some x → P (f x)) → IfSome (slice_get (map f xs) k) P

@@ -22,7 +22,8 @@ loop-node-preserved c =
     ap (map wire_of) c.in_ok-push.ensures.ok
     ∙ map_step wire_of wire c.loop-node.wires _ c.args.nodes.now c.loop-node.node-index c.node-item.result
     c.loop-node-test.true c.node-item.is c.loop-node.invariant
-    (ap (λ (e : Expr). let w : Wire = record { width = c.node-item.result.width; value = e } in w) c.in_ok-value.ensures)
+    (ap (λ (e : Expr). let w : Wire = record { width = c.node-item.result.width; value = e } in w)
+    c.in_ok-value.ensures)
 
 pub returns : goal.returns
 returns c =
