@@ -1,5 +1,5 @@
 -- The wires of a run of a netlist's module are a run of the netlist.
-use Rattle.std.proofs.Common.{◌≡◌, ℕ, zero, suc, ◌+◌, ◌<◌, List, [], ◌∷◌, length}
+use Rattle.std.proofs.Common.{◌≡◌, ℕ, zero, suc, ◌<◌, List, [], ◌∷◌, length}
 use Rattle.std.proofs.Common.{refl, ap, sym, ◌∙◌, arith, subst, Some, None}
 use Rattle.std.proofs.lemmas.List.{length-map}
 use Rattle.std.proofs.lemmas.Option.{get_or_from_slice_get, slice_get_within}
@@ -7,11 +7,11 @@ use Rattle.std.specs.Prelude.{slice_get, slice_index, Option, IfSome, IsSomeAnd,
 use Rattle.psl_model.specs.Value.{own_value}
 use Rattle.circuit_core.specs.Netlist as net
 use Rattle.circuit_core.specs.Netlist.{Op, bit, eot, guard, register, Node, Netlist, IsNet}
-use Rattle.circuit_core.specs.Run.{Run, number, truth, flipped, both, either, Equation, IsRegisterStream, IsRunOf}
+use Rattle.circuit_core.specs.Run.{Run, truth, flipped, both, either, Equation}
 use Rattle.circuit_core.specs.WellMade.{IsFinished}
 use Rattle.verilog_text.specs.Interface.{port_widths}
 use Rattle.verilog_text.specs.Run.{Cycle, FitWidths, IsSettled, Follows, HasInputs, IsRunFromReset, fail_stream}
-use Rattle.verilog_text.specs.Stream.{inputs_of, IsStreamOf, KeepsStream}
+use Rattle.verilog_text.specs.Stream.{inputs_of, KeepsStream}
 use Rattle.verilog_text.specs.inner.Translation.{Face, module_for}
 use Rattle.verilog_text.proofs.Tables.{all_below, get_mapped, get_within}
 use Rattle.verilog_text.proofs.Numbering.{settled_at, follows_at, inputs_at, input_count, wires_at, wires_are}
@@ -50,7 +50,7 @@ known m face inputs eots reset cycles p n values at =
     let before = get_within (reset ∷ cycles) n (omega (arith, slice_get_within cycles n c found.1)) in
     let follows : Follows M before.0 c = follows_at M (reset ∷ cycles) p.run.run n before.0 c before.1 found.1 in
     let row : FitWidths m.widths values = subst (λ (vs : List ℕ). FitWidths m.widths vs)
-        (get_or_from_slice_get inputs n values [] at) (p.fits n [] (slice_get_within inputs n values at)) in
+    (get_or_from_slice_get inputs n values [] at) (p.fits n [] (slice_get_within inputs n values at)) in
     record {
       cycle = c;
       at = found.1;
@@ -75,7 +75,7 @@ net_is : (m : Netlist) (face : Face) (inputs : List (List ℕ)) (eots : List ℕ
 net_is m face inputs eots reset cycles p k node at n values known =
     let c = known.cycle in
     let ends : c.end_of_execution < 2 =
-        omega (arith, known.has.end_of_execution, all_below eots 2 n (omega arith) p.ends) in
+    omega (arith, known.has.end_of_execution, all_below eots 2 n (omega arith) p.ends) in
     ap (λ (ws : List ℕ). slice_index ws k) (wires_are cycles n c known.at)
     ∙ wire_is m p.finished face c known.settled k node at
     ∙ node_takes p.keeps_width p.keeps_value m face p.widths c known.is ends known.bits k node.op

@@ -1,9 +1,9 @@
 -- The module of a finished netlist is lawful.
 use Rattle.std.proofs.Common.{◌≡◌, ℕ, zero, suc, ◌+◌, ◌<◌, ◌≤◌, ◌^◌, Bool, true, false, List, [], ◌∷◌, ◌++◌}
-use Rattle.std.proofs.Common.{map, take, length, refl, ap, sym, ◌∙◌, arith, subst, Some, None}
+use Rattle.std.proofs.Common.{map, take, length, refl, sym, ◌∙◌, arith, subst, Some, None}
 use Rattle.std.proofs.lemmas.List.{length-map, length-append, length-take-le}
 use Rattle.std.proofs.lemmas.Option.{slice_get_within}
-use Rattle.std.specs.Prelude.{slice_get, slice_index, Option, IsSomeAnd}
+use Rattle.std.specs.Prelude.{slice_index, Option, IsSomeAnd}
 use Rattle.psl_model.specs.Expr.{Expr}
 use Rattle.psl_model.specs.Valid.{IsValid, parentheses}
 use Rattle.psl_model.specs.Moved.{moved, Carries}
@@ -12,7 +12,7 @@ use Rattle.circuit_core.specs.Netlist.{Op, bit, eot, guard, register, Node, Netl
 use Rattle.circuit_core.specs.Run.{number}
 use Rattle.circuit_core.specs.WellMade.{IsOpAt, IsFinished}
 use Rattle.verilog_text.specs.Interface.{IsInterface, port_widths}
-use Rattle.verilog_text.specs.Module.{Module, Register, Wire, IsExpression, IsRegister, IsWire, IsLawful}
+use Rattle.verilog_text.specs.Module.{Register, Wire, IsExpression, IsRegister, IsWire, IsLawful}
 use Rattle.verilog_text.specs.State.{register_widths, wire_widths}
 use Rattle.verilog_text.specs.inner.Translation.{Face, first_register, first_wire, node_value, net_value}
 use Rattle.verilog_text.specs.inner.Translation.{wire_of, register_of, module_for}
@@ -50,8 +50,14 @@ record IsTable (m : Netlist) (face : Face) (xs ys zs : List ℕ) (k : ℕ) : Typ
 
 wire_there : (m : Netlist) (face : Face) (xs ys zs : List ℕ) (k a : ℕ) → IsTable m face xs ys zs k → a < k →
     first_wire m face.ports + a < length (1 ∷ 1 ∷ xs ++ ys ++ zs)
-wire_there m face xs ys zs k a t lt = omega (arith, length-append (xs ++ ys) zs, length-append xs ys,
-    t.port_count, t.register_count, t.wire_count)
+wire_there m face xs ys zs k a t lt = omega (
+  arith,
+  length-append (xs ++ ys) zs,
+  length-append xs ys,
+  t.port_count,
+  t.register_count,
+  t.wire_count,
+)
 
 node_lawful : KeepsValid → KeepsDepth → (m : Netlist) (face : Face) (xs ys zs : List ℕ) (k : ℕ) →
     IsTable m face xs ys zs k → ((r : ℕ) → slice_index ys r ≤ 1) → (op : Op) → IsOpAt m k op →
@@ -69,7 +75,7 @@ node_lawful keeps_valid keeps_depth m face xs ys zs k t narrow eot node = record
 node_lawful keeps_valid keeps_depth m face xs ys zs k t narrow (guard e) node =
     let carried : Carries 2 (length xs) xs (1 ∷ 1 ∷ xs ++ ys ++ zs) = first_list 1 1 xs ys zs in
     let room : 2 + length xs ≤ length (1 ∷ 1 ∷ xs ++ ys ++ zs) =
-        omega (arith, length-append (xs ++ ys) zs, length-append xs ys) in
+    omega (arith, length-append (xs ++ ys) zs, length-append xs ys) in
     record {
       valid = keeps_valid 2 xs (1 ∷ 1 ∷ xs ++ ys ++ zs) e carried room
           (subst (λ (ws : List ℕ). IsValid ws e) (sym t.ports) node.0);
@@ -93,8 +99,11 @@ node_lawful keeps_valid keeps_depth m face xs ys zs k t narrow (net.or a b) node
 }
 node_lawful keeps_valid keeps_depth m face xs ys zs k t narrow (register r) node = record {
   valid = omega (arith, length-append (xs ++ ys) zs, length-append xs ys, t.port_count, t.register_count);
-  narrow = omega (arith, narrow r,
-      second_list 1 1 xs ys zs (length face.ports) r t.port_count (omega (arith, t.register_count)));
+  narrow = omega (
+    arith,
+    narrow r,
+    second_list 1 1 xs ys zs (length face.ports) r t.port_count (omega (arith, t.register_count)),
+  );
   shallow = omega arith;
 }
 
@@ -104,8 +113,11 @@ net_lawful : (m : Netlist) (face : Face) (xs ys zs : List ℕ) → IsTable m fac
 net_lawful m face xs ys zs t narrow None is = absurd is
 net_lawful m face xs ys zs t narrow (Some k) is = record {
   valid = wire_there m face xs ys zs (length m.nodes) k t is;
-  narrow = omega (arith, narrow k,
-      third_list 1 1 xs ys zs (length face.ports) (length m.registers) k t.port_count t.register_count);
+  narrow = omega (
+    arith,
+    narrow k,
+    third_list 1 1 xs ys zs (length face.ports) (length m.registers) k t.port_count t.register_count,
+  );
   shallow = omega arith;
 }
 
@@ -120,9 +132,9 @@ lawful keeps_valid keeps_depth m face finished interface widths =
     let ws = first_wire m face.ports in
     let port_count : length (port_widths face.ports) ≡ length face.ports = length-map face.ports (λ s. s.width) in
     let register_count : length (register_widths M) ≡ length m.registers =
-        length-map M.registers (λ (y : Register). y.width) ∙ length-map m.registers (register_of ws) in
+    length-map M.registers (λ (y : Register). y.width) ∙ length-map m.registers (register_of ws) in
     let wire_count : length (wire_widths M) ≡ length m.nodes =
-        length-map M.wires (λ (w : Wire). w.width) ∙ length-map m.nodes (wire_of rs ws) in
+    length-map M.wires (λ (w : Wire). w.width) ∙ length-map m.nodes (wire_of rs ws) in
     let whole : IsTable m face (port_widths face.ports) (register_widths M) (wire_widths M) (length m.nodes) = record {
       ports = widths;
       port_count = port_count;
@@ -130,9 +142,9 @@ lawful keeps_valid keeps_depth m face finished interface widths =
       wire_count = wire_count;
     } in
     let narrow_registers : (k : ℕ) → slice_index (register_widths M) k ≤ 1 =
-        λ k. registers_narrow ws m.registers k (λ j x at. (finished.well_made.registers j x at).width) in
+    λ k. registers_narrow ws m.registers k (λ j x at. (finished.well_made.registers j x at).width) in
     let narrow_wires : (k : ℕ) → slice_index (wire_widths M) k ≤ 1 =
-        λ k. wires_narrow rs ws m.nodes k (λ j node at. (finished.well_made.nodes j node at).width) in
+    λ k. wires_narrow rs ws m.nodes k (λ j node at. (finished.well_made.nodes j node at).width) in
     record {
       identifier = interface.identifier;
       prefix = interface.prefix;

@@ -1,6 +1,6 @@
 -- What the wires and registers of a netlist's module take in a cycle.
 use Rattle.std.proofs.Common.{◌≡◌, ℕ, zero, suc, ◌+◌, ◌<◌, ◌%◌, ◌^◌, Bool, true, false, cond, List, map, length}
-use Rattle.std.proofs.Common.{refl, ap, sym, ◌∙◌, arith, subst, Some, None}
+use Rattle.std.proofs.Common.{refl, ap, sym, ◌∙◌, arith, subst, Some}
 use Rattle.std.proofs.Math.Nat.{mod-eq_of_lt, mod-lt}
 use Rattle.std.proofs.lemmas.List.{length-map}
 use Rattle.std.proofs.lemmas.Nat.{pow_pos}
@@ -15,7 +15,7 @@ use Rattle.circuit_core.specs.Netlist.{Op, bit, eot, guard, register, Node, Netl
 use Rattle.circuit_core.specs.Run.{number, truth, flipped, both, either}
 use Rattle.circuit_core.specs.WellMade.{IsOpAt, IsFinished}
 use Rattle.verilog_text.specs.Interface.{port_widths}
-use Rattle.verilog_text.specs.Module.{Module, Register, Wire, widths_of}
+use Rattle.verilog_text.specs.Module.{Register, Wire, widths_of}
 use Rattle.verilog_text.specs.Run.{Cycle, values_of, assigned, right_side, IsSettled, Follows}
 use Rattle.verilog_text.specs.State.{register_widths, wire_widths}
 use Rattle.verilog_text.specs.inner.Translation.{Face, first_register, first_wire, node_value, net_value}
@@ -103,13 +103,13 @@ node_takes keeps_width keeps_value m face widths c is ends bits k eot node = sma
 node_takes keeps_width keeps_value m face widths c is ends bits k (guard e) node =
     let table = widths_of (module_for m face) in
     let lists = first_list 1 1 (port_widths face.ports) (register_widths (module_for m face))
-        (wire_widths (module_for m face)) in
+    (wire_widths (module_for m face)) in
     let carried : Carries 2 (length m.widths) m.widths table =
-        carry m.widths (port_widths face.ports) table widths lists in
+    carry m.widths (port_widths face.ports) table widths lists in
     let same_length : length c.ports ≡ length m.widths =
-        is.ports ∙ sym (length-map face.ports (λ p. p.width)) ∙ ap length widths in
+    is.ports ∙ sym (length-map face.ports (λ p. p.width)) ∙ ap length widths in
     let values : Carries 2 (length m.widths) c.ports (values_of c) =
-        λ s lt. first_list c.reset c.end_of_execution c.ports c.registers c.wires s (omega (arith, same_length)) in
+    λ s lt. first_list c.reset c.end_of_execution c.ports c.registers c.wires s (omega (arith, same_length)) in
     as_truth (own_value table (values_of c) (moved 2 e))
     ∙ ap (λ w. truth (value_of table (values_of c) w (moved 2 e))) (keeps_width 2 m.widths table e carried node.0)
     ∙ ap truth (keeps_value 2 m.widths table c.ports (values_of c) (width_of m.widths e) e carried values node.0)
@@ -147,10 +147,14 @@ wire_bits : (m : Netlist) → IsFinished m → (face : Face) (c : Cycle) → IsS
 wire_bits m finished face c settled k =
     let value : Node → ℕ = λ node. assigned (module_for m face) c node.width (side_of m face node.op) in
     let same : c.wires ≡ map value m.nodes =
-        settled.wires ∙ map_twice (wire_of (first_register face.ports) (first_wire m face.ports))
-        (λ (w : Wire). assigned (module_for m face) c w.width w.value) m.nodes in
-    omega (arith, ap (λ (ws : List ℕ). slice_index ws k) same, mapped_below value m.nodes 2 k (omega arith)
-    (λ j node at. cut_below _ node.width (finished.well_made.nodes j node at).width))
+    settled.wires ∙ map_twice (wire_of (first_register face.ports) (first_wire m face.ports))
+    (λ (w : Wire). assigned (module_for m face) c w.width w.value) m.nodes in
+    omega (
+      arith,
+      ap (λ (ws : List ℕ). slice_index ws k) same,
+      mapped_below value m.nodes 2 k (omega arith)
+          (λ j node at. cut_below _ node.width (finished.well_made.nodes j node at).width),
+    )
 
 -- what a register takes
 abbrev pub after : Netlist → Face → Cycle → net.Register → ℕ
@@ -166,9 +170,12 @@ registers_are m face c d follows = follows ∙ map_twice (register_of (first_wir
 pub register_bits : (m : Netlist) → IsFinished m → (face : Face) (c d : Cycle) → Follows (module_for m face) c d →
     (r : ℕ) → slice_index d.registers r < 2
 register_bits m finished face c d follows r =
-    omega (arith, ap (λ (ws : List ℕ). slice_index ws r) (registers_are m face c d follows),
-    mapped_below (after m face c) m.registers 2 r (omega arith)
-    (λ j x at. cut_below _ x.width (finished.well_made.registers j x at).width))
+    omega (
+      arith,
+      ap (λ (ws : List ℕ). slice_index ws r) (registers_are m face c d follows),
+      mapped_below (after m face c) m.registers 2 r (omega arith)
+          (λ j x at. cut_below _ x.width (finished.well_made.registers j x at).width),
+    )
 
 pub register_count : (m : Netlist) (face : Face) (c d : Cycle) → Follows (module_for m face) c d →
     length d.registers ≡ length m.registers
@@ -211,8 +218,8 @@ pub output_is : (m : Netlist) → IsFinished m → (face : Face) (c : Cycle) (ou
 output_is m finished face c out is settled e =
     let table = widths_of (module_for m face) in
     let value : Option ℕ → ℕ = λ o.
-        value_of table (values_of c) (max 1 (width_of table (net_value (first_wire m face.ports) o)))
-        (net_value (first_wire m face.ports) o) % 2 ^ 1 in
+    value_of table (values_of c) (max 1 (width_of table (net_value (first_wire m face.ports) o)))
+    (net_value (first_wire m face.ports) o) % 2 ^ 1 in
     settled.fail
     ∙ ap value e
     ∙ ap (λ n. n % 2 ^ 1) (at_wire m face c out is)

@@ -1,5 +1,5 @@
 -- The cycles of a run by their numbers.
-use Rattle.std.proofs.Common.{◌≡◌, ℕ, zero, suc, List, [], ◌∷◌, length, refl, ap, ◌∙◌, subst, Some, None}
+use Rattle.std.proofs.Common.{◌≡◌, ℕ, zero, suc, List, [], ◌∷◌, length, refl, ap, ◌∙◌, subst, Some}
 use Rattle.std.specs.Prelude.{slice_get, slice_index}
 use Rattle.verilog_text.specs.Module.{Module}
 use Rattle.verilog_text.specs.Run.{Cycle, IsSettled, Follows, IsRun, HasInputs, HaveInputs}
@@ -30,12 +30,15 @@ inputs_at [] eots cycles have n values at = absurd (cc)
 inputs_at (v ∷ inputs) [] cycles have n values at = absurd have
 inputs_at (v ∷ inputs) (e ∷ eots) [] have n values at = absurd have
 inputs_at (v ∷ inputs) (e ∷ eots) (c ∷ cycles) have zero values at =
-    let same : v ≡ values = cc in
-    (c, refl, record {
-      reset = have.0.reset;
-      end_of_execution = have.0.end_of_execution;
-      ports = have.0.ports ∙ same;
-    })
+    let same : v ≡ values = cc in (
+      c,
+      refl,
+      record {
+        reset = have.0.reset;
+        end_of_execution = have.0.end_of_execution;
+        ports = have.0.ports ∙ same;
+      },
+    )
 inputs_at (v ∷ inputs) (e ∷ eots) (c ∷ cycles) have (suc n) values at = inputs_at inputs eots cycles have.1 n values at
 
 pub input_count : (inputs : List (List ℕ)) (eots : List ℕ) (cycles : List Cycle) → HaveInputs inputs eots cycles →

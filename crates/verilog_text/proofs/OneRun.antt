@@ -26,10 +26,10 @@ uncut m c width e = value_of (widths_of m) (values_of c) (max width (width_of (w
 
 pub wires_fit : (m : Module) (c : Cycle) → IsSettled m c → FitWidths (wire_widths m) c.wires × (c.fail < 2)
 wires_fit m c settled = (
-    subst (λ (ws : List ℕ). FitWidths (wire_widths m) ws) (sym settled.wires)
-    (cut_fit (λ (w : Wire). w.width) (λ (w : Wire). uncut m c w.width w.value) m.wires),
-    subst (λ (x : ℕ). x < 2) (sym settled.fail) (mod-lt (uncut m c 1 m.fail) (pow_pos 1)),
-  )
+  subst (λ (ws : List ℕ). FitWidths (wire_widths m) ws) (sym settled.wires)
+      (cut_fit (λ (w : Wire). w.width) (λ (w : Wire). uncut m c w.width w.value) m.wires),
+  subst (λ (x : ℕ). x < 2) (sym settled.fail) (mod-lt (uncut m c 1 m.fail) (pow_pos 1)),
+)
 
 abbrev wires_of_state : Module → (reset eot : ℕ) → (values state : List ℕ) → List ℕ
 wires_of_state m reset eot values state = settle m (state_of reset eot values state) [] m.wires
@@ -66,21 +66,21 @@ pub same_cycle : ReadsItsOwn → (m : Module) → IsLawful m → (reset eot : �
 same_cycle law m lawful reset eot values state fits c d is_c is_d settled_c settled_d =
     let sv = state_of reset eot values state in
     let c_state : state_of c.reset c.end_of_execution c.ports c.registers ≡ sv =
-        λ i. state_of (is_c.reset i) (is_c.end_of_execution i) (is_c.ports i) (is_c.registers i) in
+    λ i. state_of (is_c.reset i) (is_c.end_of_execution i) (is_c.ports i) (is_c.registers i) in
     let d_state : state_of d.reset d.end_of_execution d.ports d.registers ≡ sv =
-        λ i. state_of (is_d.reset i) (is_d.end_of_execution i) (is_d.ports i) (is_d.registers i) in
+    λ i. state_of (is_d.reset i) (is_d.end_of_execution i) (is_d.ports i) (is_d.registers i) in
     let c_wires : c.wires ≡ wires_over m (sv ++ c.wires) =
-        settled_c.wires ∙ ap (λ (v : List ℕ). wires_over m (v ++ c.wires)) c_state in
+    settled_c.wires ∙ ap (λ (v : List ℕ). wires_over m (v ++ c.wires)) c_state in
     let d_wires : d.wires ≡ wires_over m (sv ++ d.wires) =
-        settled_d.wires ∙ ap (λ (v : List ℕ). wires_over m (v ++ d.wires)) d_state in
+    settled_d.wires ∙ ap (λ (v : List ℕ). wires_over m (v ++ d.wires)) d_state in
     let wires : c.wires ≡ d.wires =
-        unique law m lawful sv c.wires d.wires (state_length m reset eot values state fits) c_wires d_wires in
+    unique law m lawful sv c.wires d.wires (state_length m reset eot values state fits) c_wires d_wires in
     let c_fail : c.fail ≡ over m (sv ++ c.wires) 1 m.fail =
-        settled_c.fail ∙ ap (λ (v : List ℕ). over m (v ++ c.wires) 1 m.fail) c_state in
+    settled_c.fail ∙ ap (λ (v : List ℕ). over m (v ++ c.wires) 1 m.fail) c_state in
     let d_fail : d.fail ≡ over m (sv ++ d.wires) 1 m.fail =
-        settled_d.fail ∙ ap (λ (v : List ℕ). over m (v ++ d.wires) 1 m.fail) d_state in
+    settled_d.fail ∙ ap (λ (v : List ℕ). over m (v ++ d.wires) 1 m.fail) d_state in
     let fail : c.fail ≡ d.fail =
-        c_fail ∙ ap (λ (ws : List ℕ). over m (sv ++ ws) 1 m.fail) wires ∙ sym d_fail in
+    c_fail ∙ ap (λ (ws : List ℕ). over m (sv ++ ws) 1 m.fail) wires ∙ sym d_fail in
     let resets : c.reset ≡ d.reset = is_c.reset ∙ sym is_d.reset in
     let ends : c.end_of_execution ≡ d.end_of_execution = is_c.end_of_execution ∙ sym is_d.end_of_execution in
     let ports : c.ports ≡ d.ports = is_c.ports ∙ sym is_d.ports in
@@ -124,9 +124,9 @@ have m before [] [] same = tt
 have m before [] (e ∷ eots) same = absurd (omega arith)
 have m before (v ∷ inputs) [] same = absurd (omega arith)
 have m before (v ∷ inputs) (e ∷ eots) same = (
-    record { reset = refl; end_of_execution = refl; ports = refl },
-    have m (cycle_of m 0 e v (next_state m before)) inputs eots (omega arith),
-  )
+  record { reset = refl; end_of_execution = refl; ports = refl },
+  have m (cycle_of m 0 e v (next_state m before)) inputs eots (omega arith),
+)
 
 run : ReadsItsOwn → (m : Module) → IsLawful m → (before : Cycle) (inputs : List (List ℕ)) (eots : List ℕ) →
     IsSettled m before → All (FitWidths (port_widths m.ports)) inputs →
@@ -136,9 +136,11 @@ run law m lawful before (v ∷ inputs) [] settled fits = settled
 run law m lawful before (v ∷ inputs) (e ∷ eots) settled fits =
     let state = next_state m before in
     let fit = next_fits m before v (row_fits (port_widths m.ports) v inputs fits) in
-    let rest = rows_fit (port_widths m.ports) v inputs fits in
-    (settled, refl,
-    run law m lawful (cycle_of m 0 e v state) inputs eots (cycle_settles law m lawful 0 e v state fit) rest)
+    let rest = rows_fit (port_widths m.ports) v inputs fits in (
+      settled,
+      refl,
+      run law m lawful (cycle_of m 0 e v state) inputs eots (cycle_settles law m lawful 0 e v state fit) rest,
+    )
 
 pub has_run : ReadsItsOwn → (m : Module) → IsLawful m → (eot : ℕ) (values state : List ℕ) →
     (inputs : List (List ℕ)) (eots : List ℕ) → eot < 2 → FitsModule m values state → AreInputs m inputs eots →
@@ -186,10 +188,10 @@ same_cycles law m lawful c d same (v ∷ inputs) (e ∷ eots) fits (x ∷ cs) (y
       registers = rd.1 ∙ ap (next_state m) (sym same);
     } in
     let heads : x ≡ y = same_cycle law m lawful 0 e v (next_state m c)
-        (next_fits m c v (row_fits widths v inputs fits)) x y state_x state_y
-        (first_settled m x cs rc.2) (first_settled m y ds rd.2) in
+    (next_fits m c v (row_fits widths v inputs fits)) x y state_x state_y
+    (first_settled m x cs rc.2) (first_settled m y ds rd.2) in
     let tails : cs ≡ ds = same_cycles law m lawful x y heads inputs eots (rows_fit widths v inputs fits) cs ds
-        hc.1 hd.1 rc.2 rd.2 in
+    hc.1 hd.1 rc.2 rd.2 in
     λ i. heads i ∷ tails i
 
 pub same_run : ReadsItsOwn → (m : Module) → IsLawful m → (eot : ℕ) (values state : List ℕ) →
@@ -200,7 +202,7 @@ pub same_run : ReadsItsOwn → (m : Module) → IsLawful m → (eot : ℕ) (valu
     (reset ≡ reset') × (cycles ≡ cycles')
 same_run law m lawful eot values state inputs eots fits are reset reset' cycles cycles' is is' r r' =
     let first = same_cycle law m lawful 1 eot values state fits reset reset' is is'
-        (first_settled m reset cycles r.run) (first_settled m reset' cycles' r'.run) in
+    (first_settled m reset cycles r.run) (first_settled m reset' cycles' r'.run) in
     let rest = same_cycles law m lawful reset reset' first inputs eots are.fit cycles cycles' r.goes_on r'.goes_on
-        r.run r'.run in
+    r.run r'.run in
     (first, rest)

@@ -1,13 +1,11 @@
 -- The names `a` and `b` are usable, and the ports of the tests may be those of a module.
-use Rattle.std.proofs.Common.{◌≡◌, ℕ, zero, suc, ◌≤◌, true, Bool, List, [], ◌∷◌, refl, ap, arith}
-use Rattle.std.specs.Prelude.{◌≢◌, not, bytes_eq, Contains, codes, All, AllPairs, Option, IfSome, length, map, nat_eq, slice_index}
-use Rattle.std.specs.List.{list_all, starts_with}
+use Rattle.std.proofs.Common.{◌≡◌, ℕ, zero, suc, true, Bool, List, [], ◌∷◌, refl, ap, arith}
+use Rattle.std.specs.Prelude.{◌≢◌, not, bytes_eq, Contains, codes, All, AllPairs, Option, IfSome, slice_index}
+use Rattle.std.specs.List.{list_all}
 use Rattle.std.proofs.lemmas.List.Elements.{All-contains}
 use Rattle.std.proofs.lemmas.List.Sums.{AllPass-from_list_all}
-use Rattle.psl_model.specs.Limits.{name_limit}
 use Rattle.psl_model.specs.Reserved.{language_words, left_out_words, verilog_words}
-use Rattle.psl_model.specs.Names.{IsIdentifier, IsUsableName, IsReport, checker_prefix}
-use Rattle.psl_model.specs.declared.names.Signal.{Signal}
+use Rattle.psl_model.specs.Names.{IsUsableName, IsReport}
 use Rattle.verilog_text.specs.Examples.{a_and_b}
 use Rattle.verilog_text.specs.Interface.{IsInterface}
 use Rattle.verilog_text.specs.Module.{IsPort}
@@ -20,7 +18,7 @@ not_among : (name : List ℕ) → bytes_eq name name ≡ true → (words : List 
 not_among name itself words others found =
     let each = AllPass-from_list_all (is_another name) words others in
     let refused : is_another name name ≡ true =
-        All-contains (λ (word : List ℕ). is_another name word ≡ true) words name each found in
+    All-contains (λ (word : List ℕ). is_another name word ≡ true) words name each found in
     cc
 
 a_no_language_word : list_all (is_another (codes "a")) language_words ≡ true

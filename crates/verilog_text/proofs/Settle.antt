@@ -1,6 +1,6 @@
 -- The wires in their order, and that no others settle.
 use Rattle.std.proofs.Common.{◌≡◌, ℕ, zero, suc, ◌+◌, ◌<◌, ◌≤◌, List, [], ◌∷◌, ◌++◌, map, length}
-use Rattle.std.proofs.Common.{refl, ap, sym, ◌∙◌, arith, Some, None, get_or, inl, inr}
+use Rattle.std.proofs.Common.{refl, ap, sym, ◌∙◌, arith, Some, inl, inr}
 use Rattle.std.proofs.lemmas.List.{ext_get_or, length-map, length-append}
 use Rattle.std.proofs.lemmas.List.{get_or_append_left, get_or_push, get_or_past}
 use Rattle.std.specs.Prelude.{◌⊎◌, slice_get, slice_index}
@@ -40,7 +40,7 @@ settle_at law m lawful sv done size (v ∷ ws) zero k w e at there =
     let is : v ≡ w = cc in
     let more : length (done ++ x ∷ []) ≡ suc (length done) = omega (arith, length-append done (x ∷ [])) in
     let here : slice_index all k ≡ x =
-        settle_keeps m sv (done ++ x ∷ []) ws k (omega (arith, more)) ∙ get_or_push done x 0 k (omega arith) in
+    settle_keeps m sv (done ++ x ∷ []) ws k (omega (arith, more)) ∙ get_or_push done x 0 k (omega arith) in
     here
     ∙ ap (λ (u : Wire). over m (sv ++ done) u.width u.value) is
     ∙ wire_reads_earlier law m lawful sv done all size k w there
@@ -75,9 +75,9 @@ settled law m lawful sv size =
     let f : Wire → ℕ = λ (w : Wire). over m (sv ++ all) w.width w.value in
     let count : length all ≡ length m.wires = omega (arith, settle_length m sv [] m.wires) in
     ext_get_or 0 all (map f m.wires) (omega (arith, count, length-map m.wires f)) (λ k lt.
-        let w = get_here m.wires k (omega (arith, count)) in
-        settle_at law m lawful sv [] size m.wires k k w.0 (omega arith) w.1 w.1
-        ∙ sym (index_mapped f m.wires k w.0 w.1))
+    let w = get_here m.wires k (omega (arith, count)) in
+    settle_at law m lawful sv [] size m.wires k k w.0 (omega arith) w.1 w.1
+    ∙ sym (index_mapped f m.wires k w.0 w.1))
 
 -- and no others do
 pub unique : ReadsItsOwn → (m : Module) → IsLawful m → (sv xs ys : List ℕ) → length sv ≡ length (state_widths m) →
@@ -87,10 +87,12 @@ unique law m lawful sv xs ys size is_x is_y =
   where
     count : (zs : List ℕ) → zs ≡ wires_over m (sv ++ zs) → length zs ≡ length m.wires
     count zs is = ap length is ∙ length-map m.wires (λ (w : Wire). over m (sv ++ zs) w.width w.value)
+
     value : (zs : List ℕ) → zs ≡ wires_over m (sv ++ zs) → (k : ℕ) (w : Wire) → slice_get m.wires k ≡ Some w →
         slice_index zs k ≡ over m (sv ++ zs) w.width w.value
     value zs is k w at = ap (λ (vs : List ℕ). slice_index vs k) is
         ∙ index_mapped (λ (v : Wire). over m (sv ++ zs) v.width v.value) m.wires k w at
+
     step : (k : ℕ) → ((j : ℕ) → j < k → slice_index xs j ≡ slice_index ys j) →
         (k < length m.wires) ⊎ (length m.wires ≤ k) → slice_index xs k ≡ slice_index ys k
     step k before (inl lt) =
@@ -99,9 +101,10 @@ unique law m lawful sv xs ys size is_x is_y =
         ∙ sym (value ys is_y k w.0 w.1)
     step k before (inr le) =
         get_or_past xs k 0 (omega (arith, count xs is_x)) ∙ sym (get_or_past ys k 0 (omega (arith, count ys is_y)))
+
     upto : (n k : ℕ) → k < n → slice_index xs k ≡ slice_index ys k
     upto zero k lt = absurd (omega arith)
     upto (suc n) k lt = elim (lt_or_le k n) [
-        inl less ↦ upto n k less
-        | inr le ↦ step k (λ j below. upto n j (omega arith)) (lt_or_le k (length m.wires))
-      ]
+      | inl less ↦ upto n k less
+      | inr le ↦ step k (λ j below. upto n j (omega arith)) (lt_or_le k (length m.wires))
+    ]

@@ -1,7 +1,7 @@
 -- The small checker is lawful, and its output is the negation of its port.
-use Rattle.std.proofs.Common.{◌≡◌, ℕ, zero, suc, ◌%◌, ◌^◌, ◌++◌, Bool, true, List, [], ◌∷◌, refl, ap, ◌∙◌, arith}
+use Rattle.std.proofs.Common.{◌≡◌, ℕ, zero, suc, ◌%◌, ◌^◌, ◌++◌, List, [], ◌∷◌, refl, ap, ◌∙◌, arith}
 use Rattle.std.proofs.Common.{get_or}
-use Rattle.std.specs.Prelude.{◌≢◌, ◌==◌, not, bytes_eq, Contains, codes, All, AllPairs, IfSome, slice_get}
+use Rattle.std.specs.Prelude.{◌≢◌, ◌==◌, not, codes, All, AllPairs, IfSome, slice_get}
 use Rattle.psl_model.specs.Value.{bit_of}
 use Rattle.verilog_text.specs.Module.{IsLawful, IsPort, IsRegister, IsWire}
 use Rattle.verilog_text.specs.Run.{Cycle, IsSettled, IsRunFromReset, fail_stream}

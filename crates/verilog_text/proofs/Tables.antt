@@ -1,6 +1,6 @@
 -- Places of a table that begins with two entries and goes on with three lists, and lists by place.
-use Rattle.std.proofs.Common.{◌≡◌, ℕ, zero, suc, ◌+◌, ◌<◌, ◌≤◌, List, [], ◌∷◌, ◌++◌, map, length}
-use Rattle.std.proofs.Common.{refl, ap, ◌∙◌, arith, Some, None, get_or}
+use Rattle.std.proofs.Common.{◌≡◌, ℕ, zero, suc, ◌+◌, ◌<◌, List, [], ◌∷◌, ◌++◌, map, length}
+use Rattle.std.proofs.Common.{refl, ap, ◌∙◌, arith, Some}
 use Rattle.std.proofs.lemmas.List.{length-append, get_or_append_left, get_or-append-add}
 use Rattle.std.specs.Prelude.{slice_get, slice_index, All, IfSome}
 use Rattle.psl_model.specs.Moved.{Carries}

@@ -3,7 +3,7 @@ use Rattle.std.proofs.Common.{◌≡◌, ℕ, zero, suc, ◌+◌, ◌<◌, ◌�
 use Rattle.std.proofs.Common.{refl, ap, sym, ◌∙◌, arith, subst, get_or, Some, None}
 use Rattle.std.proofs.lemmas.List.{map-append, take_more, take_all, length-map}
 use Rattle.std.proofs.lemmas.Option.{slice_get_within}
-use Rattle.std.specs.Prelude.{All, slice_get, Option, IsSomeAnd}
+use Rattle.std.specs.Prelude.{All, Option, IsSomeAnd}
 use Rattle.psl_model.specs.Expr.{Expr, whole, bit, part, plain, sized, unary, binary, choice}
 use Rattle.psl_model.specs.Valid.{IsValid}
 use Rattle.psl_model.specs.declared.names.Signal.{Signal}
@@ -15,7 +15,7 @@ use Rattle.verilog_text.specs.Module.{Register}
 use Rattle.verilog_text.specs.Stream.{HasRegistersOf}
 use Rattle.verilog_text.specs.inner.Translation.{Face, Fits, SignalsFit, NodeFits, first_register, first_wire}
 use Rattle.verilog_text.specs.inner.Translation.{register_of, module_for}
-use Rattle.verilog_text.proofs.Tables.{Each, all_each}
+use Rattle.verilog_text.proofs.Tables.{all_each}
 
 pub map_step : {X Y Z : Type 0} (f : X → Z) (g : Y → Z) (xs : List X) (x : X) (ys : List Y) (i : ℕ) (y : Y) →
     i < length ys → y ≡ get_or ys i y → map f xs ≡ map g (take i ys) → f x ≡ g y →
@@ -106,7 +106,7 @@ pub has_room : (m : Netlist) (ports watched : List Signal) (rs ws : ℕ) → wat
     ws + length m.nodes ≤ 2 ^ 64 → 2 + length watched ≤ 2 ^ 64 → HasRoom m rs ws
 has_room m ports watched rs ws same widths registers wires last most =
     let count : length m.widths ≡ length watched =
-        sym (ap length widths) ∙ length-map ports (λ p. p.width) ∙ sym (ap length same) in
+    sym (ap length widths) ∙ length-map ports (λ p. p.width) ∙ sym (ap length same) in
     record {
       signals = omega (arith, count, most);
       registers = omega (arith, registers, wires);

@@ -1,6 +1,6 @@
 -- A wire takes nothing but what stands before it.
-use Rattle.std.proofs.Common.{◌≡◌, ℕ, zero, suc, ◌+◌, ◌<◌, ◌≤◌, ◌%◌, ◌^◌, List, [], ◌∷◌, ◌++◌, map, take, length}
-use Rattle.std.proofs.Common.{refl, ap, sym, ◌∙◌, arith, subst, Some, None}
+use Rattle.std.proofs.Common.{◌≡◌, ℕ, zero, suc, ◌+◌, ◌<◌, ◌≤◌, ◌%◌, ◌^◌, List, [], ◌∷◌, ◌++◌, take, length}
+use Rattle.std.proofs.Common.{refl, ap, sym, ◌∙◌, arith, subst, Some}
 use Rattle.std.proofs.lemmas.List.{get_or-take, length-append, length-map, length-take-le}
 use Rattle.std.proofs.lemmas.Option.{slice_get_within}
 use Rattle.std.specs.Prelude.{max, slice_get, slice_index, IfSome}
@@ -8,8 +8,8 @@ use Rattle.psl_model.specs.Expr.{Expr}
 use Rattle.psl_model.specs.Value.{width_of, value_of}
 use Rattle.psl_model.specs.Valid.{IsValid}
 use Rattle.verilog_text.specs.Interface.{port_widths}
-use Rattle.verilog_text.specs.Module.{Module, Wire, Register, state_widths, widths_of, IsWire, IsLawful}
-use Rattle.verilog_text.specs.Run.{Cycle, FitWidths}
+use Rattle.verilog_text.specs.Module.{Module, Wire, state_widths, widths_of, IsWire, IsLawful}
+use Rattle.verilog_text.specs.Run.{FitWidths}
 use Rattle.verilog_text.specs.State.{register_widths, wire_widths, FitsModule}
 
 -- an expression reads its own signals alone
@@ -47,9 +47,13 @@ state_of reset eot values state = reset ∷ eot ∷ values ++ state
 
 pub state_length : (m : Module) (reset eot : ℕ) (values state : List ℕ) → FitsModule m values state →
     length (state_of reset eot values state) ≡ length (state_widths m)
-state_length m reset eot values state fits = omega (arith, length-append values state,
-    length-append (port_widths m.ports) (register_widths m), fit_length (port_widths m.ports) values fits.ports,
-    fit_length (register_widths m) state fits.registers)
+state_length m reset eot values state fits = omega (
+  arith,
+  length-append values state,
+  length-append (port_widths m.ports) (register_widths m),
+  fit_length (port_widths m.ports) values fits.ports,
+  fit_length (register_widths m) state fits.registers,
+)
 
 at_some : {X : Type 0} (xs : List X) (k : ℕ) (x : X) (P : X → Type 0) → slice_get xs k ≡ Some x →
     IfSome (slice_get xs k) P → P x
@@ -65,15 +69,19 @@ wire_reads_earlier law m lawful sv xs ys size place w at same =
     let is : IsWire m place w = at_some m.wires place w (IsWire m place) at (lawful.wires place) in
     let us = state_widths m ++ take place (wire_widths m) in
     let within : place ≤ length (wire_widths m) =
-        omega (arith, slice_get_within m.wires place w at, length-map m.wires (λ (v : Wire). v.width)) in
-    let count : length us ≡ length sv + place = omega (arith, size,
-        length-append (state_widths m) (take place (wire_widths m)), length-take-le place (wire_widths m) within) in
+    omega (arith, slice_get_within m.wires place w at, length-map m.wires (λ (v : Wire). v.width)) in
+    let count : length us ≡ length sv + place = omega (
+      arith,
+      size,
+      length-append (state_widths m) (take place (wire_widths m)),
+      length-take-le place (wire_widths m) within,
+    ) in
     let context = max w.width (width_of (widths_of m) w.value) in
     let tables : (s : ℕ) → s < length us → slice_index (widths_of m) s ≡ slice_index us s =
-        λ s lt. table_agrees (state_widths m) (wire_widths m) place s lt within in
+    λ s lt. table_agrees (state_widths m) (wire_widths m) place s lt within in
     let first : value_of (widths_of m) (sv ++ xs) context w.value ≡ value_of us (sv ++ ys) context w.value =
-        law us (widths_of m) (sv ++ ys) (sv ++ xs) context w.value tables
-        (λ s lt. append_agrees sv xs ys place same s (omega (arith, count))) is.value.valid in
+    law us (widths_of m) (sv ++ ys) (sv ++ xs) context w.value tables
+    (λ s lt. append_agrees sv xs ys place same s (omega (arith, count))) is.value.valid in
     let second : value_of (widths_of m) (sv ++ ys) context w.value ≡ value_of us (sv ++ ys) context w.value =
-        law us (widths_of m) (sv ++ ys) (sv ++ ys) context w.value tables (λ s lt. refl) is.value.valid in
+    law us (widths_of m) (sv ++ ys) (sv ++ ys) context w.value tables (λ s lt. refl) is.value.valid in
     ap (λ x. x % 2 ^ w.width) (first ∙ sym second)

@@ -11,8 +11,8 @@ wires-requires c =
     let rs = c.new-places.result.registers in
     let ws = c.new-places.result.wires in
     let room : HasRoom m rs ws = has_room m c.args.ports c.as_slice.result.now rs ws c.as_slice.ensures
-        c.requires.widths c.new-places.ensures.registers c.new-places.ensures.wires c.new-places.ensures.room
-        c.new-places.ensures.ports in
+    c.requires.widths c.new-places.ensures.registers c.new-places.ensures.wires c.new-places.ensures.room
+    c.new-places.ensures.ports in
     subst (λ (nodes : List plain.Node). All (λ (node : plain.Node). NodeFits rs ws node.op) nodes)
     (sym c.nodes.ensures) (nodes_fit m rs ws c.requires.finished room)
 
@@ -22,8 +22,8 @@ registers-requires c =
     let rs = c.new-places.result.registers in
     let ws = c.new-places.result.wires in
     let room : HasRoom m rs ws = has_room m c.args.ports c.as_slice.result.now rs ws c.as_slice.ensures
-        c.requires.widths c.new-places.ensures.registers c.new-places.ensures.wires c.new-places.ensures.room
-        c.new-places.ensures.ports in
+    c.requires.widths c.new-places.ensures.registers c.new-places.ensures.wires c.new-places.ensures.room
+    c.new-places.ensures.ports in
     subst
     (λ (xs : List plain.Register). All (λ (x : plain.Register). IsSomeAnd x.next (λ next. Fits (ws + next))) xs)
     (sym c.regs.ensures) (nexts_fit m rs ws c.requires.finished room)

@@ -1,4 +1,4 @@
-use Rattle.std.proofs.Common.{◌≡◌, ℕ, ◌+◌, map, ap, ◌∙◌, None, List, get_or}
+use Rattle.std.proofs.Common.{ℕ, ◌+◌, map, ap, ◌∙◌, None, List, get_or}
 use Rattle.std.proofs.lemmas.List.{get_or_default}
 use Rattle.std.specs.Prelude.{IsSomeAnd}
 use Rattle.circuit_core.specs.declared.nodes.NetReg.{NetReg}

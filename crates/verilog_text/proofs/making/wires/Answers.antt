@@ -1,4 +1,4 @@
-use Rattle.std.proofs.Common.{◌≡◌, map, ap, ◌∙◌}
+use Rattle.std.proofs.Common.{map, ap, ◌∙◌}
 use Rattle.psl_model.specs.Expr.{Expr}
 use Rattle.circuit_core.specs.declared.nodes.Node.{Node}
 use Rattle.circuit_core.specs.Netlist as plain
@@ -18,7 +18,7 @@ node_value-requires c =
 pub loop-node-preserved : goal.loop-node-preserved
 loop-node-preserved c =
     let wire : Node → Wire =
-        λ node. made.wire_of c.args.places.registers c.args.places.wires (net.node_of node) in
+    λ node. made.wire_of c.args.places.registers c.args.places.wires (net.node_of node) in
     ap (map wire_of) c.in_ok-push.ensures.ok
     ∙ map_step wire_of wire c.loop-node.wires _ c.args.nodes.now c.loop-node.node-index c.node-item.result
     c.loop-node-test.true c.node-item.is c.loop-node.invariant

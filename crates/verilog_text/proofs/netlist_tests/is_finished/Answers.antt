@@ -1,5 +1,5 @@
-use Rattle.std.proofs.Common.{◌≡◌, ℕ, zero, suc, List, [], ◌∷◌, map, ap, sym, ◌∙◌, subst, refl, arith, Some, None}
-use Rattle.std.specs.Prelude.{All, IsSome, IsTrue, Option, slice_get}
+use Rattle.std.proofs.Common.{◌≡◌, ℕ, zero, suc, List, [], ◌∷◌, map, ap, ◌∙◌, subst, refl, arith, Some, None}
+use Rattle.std.specs.Prelude.{All, IsSome, Option, slice_get}
 use Rattle.circuit_core.specs.Netlist.{Netlist, Register}
 use Rattle.circuit_core.specs.View.{register_of, net_of}
 use Rattle.circuit_core.specs.Growth.{HaveNexts}
