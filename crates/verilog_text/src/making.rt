@@ -42,7 +42,8 @@ impl Places {
         ensures room { result.wires + length netlist.now.nodes ≤ 2 ^ 64 }
         ensures ports { 2 + length ports.now ≤ 2 ^ 64 }
     {
-        let _nodes = netlist.nodes().len();
+        // The nodes are a slice in memory, and so are few enough.
+        let _nodes = netlist.nodes();
         let registers = FIRST_PORT + ports.len();
         Places {
             registers,
