@@ -22,7 +22,8 @@ get_mapped f [] k x lt at = absurd (omega arith)
 get_mapped f (y ∷ xs) zero x lt at = ap (λ z. Some (f z)) (sym at)
 get_mapped f (y ∷ xs) (suc k) x lt at = get_mapped f xs k x (omega arith) at
 
-take_suc : {X : Type 0} (xs : List X) (k : ℕ) (x : X) → k < length xs → x ≡ get_or xs k x → take (suc k) xs ≡ take k xs ++ x ∷ []
+take_suc : {X : Type 0} (xs : List X) (k : ℕ) (x : X) → k < length xs → x ≡ get_or xs k x → take (suc k) xs ≡ take k
+    xs ++ x ∷ []
 take_suc [] k x lt at = absurd (omega arith)
 take_suc (y ∷ xs) zero x lt at = ap (λ z. z ∷ []) (sym at)
 take_suc (y ∷ xs) (suc k) x lt at = ap (λ zs. y ∷ zs) (take_suc xs k x (omega arith) at)
@@ -33,7 +34,8 @@ take_mapped f xs k x lt at =
     let next : k + 1 ≡ suc k = omega arith in
     ap (λ n. map f (take n xs)) next ∙ ap (map f) (take_suc xs k x lt at) ∙ map-append f (take k xs) (x ∷ [])
 
-take_twice : (ds : List WireDecl) (k : ℕ) → take k (map (λ (w : Wire). w.width) (map wire_of ds)) ≡ map (λ (w : Wire). w.width) (map wire_of (take k ds))
+take_twice : (ds : List WireDecl) (k : ℕ) → take k (map (λ (w : Wire). w.width) (map wire_of ds)) ≡ map (λ (w : Wire).
+    w.width) (map wire_of (take k ds))
 take_twice ds zero = refl
 take_twice [] (suc k) = refl
 take_twice (d ∷ ds) (suc k) = ap (λ ws. d.width ∷ ws) (take_twice ds k)
@@ -54,10 +56,12 @@ pub wire_valid : (m : Module) → IsLawful m → (ds : List WireDecl) → map wi
     widths ≡ state_widths m ++ map (λ (w : Wire). w.width) (map wire_of (take k ds)) → IsValid widths (expr_of d.value)
 wire_valid m lawful ds same k d lt at widths is =
     subst (λ ws. IsValid ws (expr_of d.value)) (before m ds same k widths is)
-        (wire_at m lawful k (wire_of d) (wire_there m ds same k d lt at)).value.valid
+    (wire_at m lawful k (wire_of d) (wire_there m ds same k d lt at)).value.valid
 
-pub widths_narrow : (m : Module) → IsLawful m → (ds : List WireDecl) → map wire_of ds ≡ m.wires → (k : ℕ) (widths : List ℕ) →
-    widths ≡ state_widths m ++ map (λ (w : Wire). w.width) (map wire_of (take k ds)) → All (λ w. w ≤ vector_limit) widths
+pub widths_narrow : (m : Module) → IsLawful m → (ds : List WireDecl) → map wire_of ds ≡ m.wires → (k : ℕ) (widths :
+    List ℕ) →
+    widths ≡ state_widths m ++ map (λ (w : Wire). w.width) (map wire_of (take k ds)) → All (λ w. w ≤ vector_limit)
+    widths
 widths_narrow m lawful ds same k widths is =
     subst (λ ws. All (λ w. w ≤ vector_limit) ws) (before m ds same k widths is) (narrow_before m lawful k)
 
@@ -72,29 +76,37 @@ pub wire_more : Reads → ReadsWidth → (first : ℕ) (front fronts : List ℕ)
     AreWires first front fronts (map wire_of (take (k + 1) ds)) us qs new
 wire_more reads width first front fronts ds k d lt at ws ps us qs old new p is valid line us_is qs_is =
     subst (λ ws2. AreWires first front fronts ws2 us qs new) (sym (take_mapped wire_of ds k d lt at))
-        (subst (λ us2. AreWires first front fronts (map wire_of (take k ds) ++ wire_of d ∷ []) us2 qs new) (sym us_is)
-            (subst (λ qs2. AreWires first front fronts (map wire_of (take k ds) ++ wire_of d ∷ []) (ws ++ d.width ∷ []) qs2 new) (sym qs_is)
-                (wires_more reads width first front fronts (map wire_of (take k ds)) ws ps old new (wire_of d) p is valid line)))
+    (subst (λ us2. AreWires first front fronts (map wire_of (take k ds) ++ wire_of d ∷ []) us2 qs new) (sym us_is)
+    (subst (λ qs2. AreWires first front fronts (map wire_of (take k ds) ++ wire_of d ∷ []) (ws ++ d.width ∷
+    []) qs2 new) (sym qs_is)
+    (wires_more reads width first front fronts (map wire_of (take k ds)) ws ps old new (wire_of d) p is
+    valid line)))
 
 pub register_there : (m : Module) (ds : List RegDecl) → map register_of ds ≡ m.registers → (k : ℕ) (d : RegDecl) →
     k < length ds → d ≡ get_or ds k d → slice_get m.registers k ≡ Some (register_of d)
-register_there m ds same k d lt at = subst (λ rs. slice_get rs k ≡ Some (register_of d)) same (get_mapped register_of ds k d lt at)
+register_there m ds same k d lt at = subst (λ rs. slice_get rs k ≡ Some (register_of d)) same (get_mapped register_of
+    ds k d lt at)
 
-pub register_valid : (m : Module) → IsLawful m → (ds : List RegDecl) → map register_of ds ≡ m.registers → (k : ℕ) (d : RegDecl) →
+pub register_valid : (m : Module) → IsLawful m → (ds : List RegDecl) → map register_of ds ≡ m.registers → (k : ℕ) (d :
+    RegDecl) →
     k < length ds → d ≡ get_or ds k d → (widths : List ℕ) → widths ≡ widths_of m → IsValid widths (expr_of d.next)
 register_valid m lawful ds same k d lt at widths is =
     subst (λ ws. IsValid ws (expr_of d.next)) (sym is)
-        (register_at m lawful k (register_of d) (register_there m ds same k d lt at)).next.valid
+    (register_at m lawful k (register_of d) (register_there m ds same k d lt at)).next.valid
 
-pub register_width : (m : Module) → IsLawful m → (ds : List RegDecl) → map register_of ds ≡ m.registers → (k : ℕ) (d : RegDecl) →
+pub register_width : (m : Module) → IsLawful m → (ds : List RegDecl) → map register_of ds ≡ m.registers → (k : ℕ) (d :
+    RegDecl) →
     k < length ds → d ≡ get_or ds k d → d.width ≤ vector_limit
-register_width m lawful ds same k d lt at = (register_at m lawful k (register_of d) (register_there m ds same k d lt at)).width.1
+register_width m lawful ds same k d lt at = (register_at m lawful k (register_of d) (register_there m ds same k d lt
+    at)).width.1
 
-pub next_more : (first : ℕ) (ws ps : List ℕ) (ds : List RegDecl) (k : ℕ) (d : RegDecl) → k < length ds → d ≡ get_or ds k d →
-    (nexts more : List ℕ) (old mid new : List Node) (p : ℕ) → AreNexts first ws ps (map register_of (take k ds)) nexts old mid →
+pub next_more : (first : ℕ) (ws ps : List ℕ) (ds : List RegDecl) (k : ℕ) (d : RegDecl) → k < length ds → d ≡ get_or ds
+    k d →
+    (nexts more : List ℕ) (old mid new : List Node) (p : ℕ) → AreNexts first ws ps (map register_of (take k ds)) nexts
+    old mid →
     IsLine first ws ps mid new d.width (expr_of d.next) p → more ≡ nexts ++ p ∷ [] →
     AreNexts first ws ps (map register_of (take (k + 1) ds)) more old new
 next_more first ws ps ds k d lt at nexts more old mid new p is line more_is =
     subst (λ rs. AreNexts first ws ps rs more old new) (sym (take_mapped register_of ds k d lt at))
-        (subst (λ ns. AreNexts first ws ps (map register_of (take k ds) ++ register_of d ∷ []) ns old new) (sym more_is)
-            (nexts_more first ws ps (map register_of (take k ds)) nexts old mid new (register_of d) p is line))
+    (subst (λ ns. AreNexts first ws ps (map register_of (take k ds) ++ register_of d ∷ []) ns old new) (sym more_is)
+    (nexts_more first ws ps (map register_of (take k ds)) nexts old mid new (register_of d) p is line))

@@ -1,5 +1,6 @@
 -- Evaluating the nodes in their order.
-use Rattle.std.proofs.Common.{◌≡◌, ℕ, zero, suc, ◌+◌, ◌/◌, ◌%◌, ◌^◌, ◌<◌, ◌≤◌, List, [], ◌∷◌, length, set, cond, refl, ap}
+use Rattle.std.proofs.Common.{◌≡◌, ℕ, zero, suc, ◌+◌, ◌/◌, ◌%◌, ◌^◌, ◌<◌, ◌≤◌, List, [], ◌∷◌, length, set, cond, refl}
+use Rattle.std.proofs.Common.{ap}
 use Rattle.std.proofs.Common.{sym, ◌∙◌, arith, subst, Some, get_or, inl, inr}
 use Rattle.std.proofs.lemmas.List.{get_or-set_same, get_or-set_other, length-set}
 use Rattle.std.specs.Prelude.{slice_get, slice_index, slice_index_or, ◌≢◌, ◌⊎◌, ◌==◌}
@@ -34,20 +35,25 @@ same_or_below : (s n : ℕ) → s < n + 1 → (s ≡ n) ⊎ (s < n)
 same_or_below zero zero lt = inl refl
 same_or_below zero (suc n) lt = inr (omega arith)
 same_or_below (suc s) zero lt = absurd (omega arith)
-same_or_below (suc s) (suc n) lt = elim (same_or_below s n (omega arith)) [ inl e ↦ inl (omega arith) | inr below ↦ inr (omega arith) ]
+same_or_below (suc s) (suc n) lt = elim (same_or_below s n (omega arith)) [
+  | inl e ↦ inl (omega arith)
+  | inr below ↦
+      inr (omega arith)
+]
 
 pub met_more : (end first : ℕ) (nodes : List Node) (table : List ℕ) (n : Node) (v : ℕ) → IsTape nodes →
     end < length table → slice_get nodes end ≡ Some n → v ≡ node_value table n →
     MeetsBelow end first nodes table → MeetsBelow (end + 1) first nodes (set table end v)
 met_more end first nodes table n v tape lt at is met k m le below here = elim (same_or_below k end below) [
-    inr less ↦ other table end v k less ∙ met k m le less here
+  | inr less ↦ other table end v k less ∙ met k m le less here
       ∙ sym (same_value k m (set table end v) table (tape k m here) (λ s before. other table end v s (omega arith)))
-    | inl e ↦ (
+  | inl e ↦ (
       let m_at : slice_get nodes end ≡ Some m = subst (λ (j : ℕ). slice_get nodes j ≡ Some m) e here in
       let m_is : n ≡ m = cc in
-      ap (λ (j : ℕ). get_or (set table end v) j 0) e ∙ get_or-set_same table end v 0 lt ∙ is ∙ ap (node_value table) m_is
+      ap (λ (j : ℕ). get_or (set table end v) j 0) e ∙ get_or-set_same table end v 0 lt ∙ is ∙ ap (node_value table)
+      m_is
       ∙ sym (same_value end m (set table end v) table (tape end m m_at) (λ s before. other table end v s before)))
-  ]
+]
 
 pub kept_more : (first end v : ℕ) (old table : List ℕ) → first ≤ end →
     ((s : ℕ) → s < first → slice_index table s ≡ slice_index old s) →
@@ -61,7 +67,8 @@ node_more a b (Unary op w p) le is = (is.0, omega (arith, is.1))
 node_more a b (Binary op c p q) le is = (is.0, omega (arith, is.1), omega (arith, is.2))
 node_more a b (Choice t p q) le is = (omega (arith, is.0), omega (arith, is.1), omega (arith, is.2))
 
-pub node_there : (nodes : List Node) (k : ℕ) → k < length nodes → slice_get nodes k ≡ Some (slice_index_or nodes k (Number 0))
+pub node_there : (nodes : List Node) (k : ℕ) → k < length nodes → slice_get nodes k ≡ Some (slice_index_or nodes k
+    (Number 0))
 node_there [] k lt = absurd (omega arith)
 node_there (x ∷ nodes) zero lt = refl
 node_there (x ∷ nodes) (suc k) lt = node_there nodes k (omega arith)

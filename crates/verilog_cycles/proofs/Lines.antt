@@ -1,5 +1,6 @@
 -- What a target takes, made ready.
-use Rattle.std.proofs.Common.{◌≡◌, ℕ, ◌+◌, ◌/◌, ◌%◌, ◌^◌, ◌<◌, ◌≤◌, List, [], ◌∷◌, ◌++◌, length, ap, sym, ◌∙◌, arith, subst}
+use Rattle.std.proofs.Common.{◌≡◌, ℕ, ◌+◌, ◌/◌, ◌%◌, ◌^◌, ◌<◌, ◌≤◌, List, [], ◌∷◌, ◌++◌, length, ap, sym, ◌∙◌, arith}
+use Rattle.std.proofs.Common.{subst}
 use Rattle.std.proofs.Math.Nat.{mod-eq_of_lt, div-one}
 use Rattle.std.specs.Prelude.{max, slice_index}
 use Rattle.psl_model.specs.Limits.{vector_limit}
@@ -25,12 +26,13 @@ line_whole law first ws ps old new target c e place c_is narrow valid r = record
   tape = r.tape;
   within = r.within;
   means = λ table met fits.
-    let values = values_at table ps in
-    let context = max target (width_of ws e) in
-    let same : context ≡ target = omega arith in
-    let below : value_of ws values context e < 2 ^ context = law ws values context e fits valid (omega arith) in
-    let small : value_of ws values context e < 2 ^ target = subst (λ (k : ℕ). value_of ws values context e < 2 ^ k) same below in
-    r.means table met ∙ ap (λ (k : ℕ). value_of ws values k e) c_is ∙ sym (mod-eq_of_lt small);
+      let values = values_at table ps in
+      let context = max target (width_of ws e) in
+      let same : context ≡ target = omega arith in
+      let below : value_of ws values context e < 2 ^ context = law ws values context e fits valid (omega arith) in
+      let small : value_of ws values context e < 2 ^ target = subst (λ (k : ℕ). value_of ws values context e < 2 ^ k)
+      same below in
+      r.means table met ∙ ap (λ (k : ℕ). value_of ws values k e) c_is ∙ sym (mod-eq_of_lt small);
 }
 
 pub line_cut : (first : ℕ) (ws ps : List ℕ) (old mid new : List Node) (target c : ℕ) (e : Expr) (p place : ℕ) →
@@ -42,10 +44,10 @@ line_cut first ws ps old mid new target c e p place le c_is limit r gained at = 
   tape = tape_on mid new (Part p 0 target) gained r.tape (r.within, omega arith, limit);
   within = omega (arith, longer mid new (Part p 0 target) gained);
   means = λ table met fits.
-    let values = values_at table ps in
-    ap (slice_index table) at
-    ∙ met_end first mid new (Part p 0 target) table gained (omega (arith, le, grown old mid r.grows)) met
-    ∙ ap (λ (x : ℕ). x % 2 ^ target) (div-one (slice_index table p)
-        ∙ r.means table (meets_front first mid new table (grows_by mid new (Part p 0 target) gained) met)
-        ∙ ap (λ (k : ℕ). value_of ws values k e) c_is);
+      let values = values_at table ps in
+      ap (slice_index table) at
+      ∙ met_end first mid new (Part p 0 target) table gained (omega (arith, le, grown old mid r.grows)) met
+      ∙ ap (λ (x : ℕ). x % 2 ^ target) (div-one (slice_index table p)
+      ∙ r.means table (meets_front first mid new table (grows_by mid new (Part p 0 target) gained) met)
+      ∙ ap (λ (k : ℕ). value_of ws values k e) c_is);
 }

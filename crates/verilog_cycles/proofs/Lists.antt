@@ -3,7 +3,8 @@ use Rattle.std.proofs.Common.{◌≡◌, ℕ, zero, suc, ◌+◌, ◌<◌, ◌�
 use Rattle.std.proofs.Common.{◌∙◌, arith, Some, None, inl, inr, get_or}
 use Rattle.std.specs.Prelude.{◌⊎◌, slice_get, slice_index, All}
 
-pub get_front : {X : Type 0} (xs ys : List X) (k : ℕ) (x : X) → slice_get xs k ≡ Some x → slice_get (xs ++ ys) k ≡ Some x
+pub get_front : {X : Type 0} (xs ys : List X) (k : ℕ) (x : X) → slice_get xs k ≡ Some x → slice_get (xs ++ ys) k ≡
+    Some x
 get_front [] ys k x at = absurd (cc)
 get_front (z ∷ xs) ys zero x at = at
 get_front (z ∷ xs) ys (suc k) x at = get_front xs ys k x at
@@ -19,9 +20,9 @@ get_more [] y zero x at = inr (refl, cc)
 get_more [] y (suc k) x at = absurd (cc)
 get_more (z ∷ xs) y zero x at = inl at
 get_more (z ∷ xs) y (suc k) x at = elim (get_more xs y k x at) [
-    inl before ↦ inl before
-    | inr last ↦ inr (ap suc last.0, last.1)
-  ]
+  | inl before ↦ inl before
+  | inr last ↦ inr (ap suc last.0, last.1)
+]
 
 pub get_within : {X : Type 0} (xs : List X) (k : ℕ) (x : X) → slice_get xs k ≡ Some x → k < length xs
 get_within [] k x at = absurd (cc)
@@ -63,4 +64,5 @@ pub all_push : (P : ℕ → Type 0) (xs : List ℕ) (y : ℕ) → All P xs → P
 all_push P [] y all is zero d lt = is
 all_push P [] y all is (suc k) d lt = absurd (omega arith)
 all_push P (x ∷ xs) y all is zero d lt = all 0 d (omega arith)
-all_push P (x ∷ xs) y all is (suc k) d lt = all_push P xs y (λ j e below. all (suc j) e (omega arith)) is k d (omega arith)
+all_push P (x ∷ xs) y all is (suc k) d lt = all_push P xs y (λ j e below. all (suc j) e (omega arith)) is k d (omega
+    arith)

@@ -20,7 +20,8 @@ program_is m first n0 n1 n2 n3 fronts ps takes fail front first_is wires nexts l
   front = front.count ∙ sym front.size ∙ sym first_is;
   ordered = λ s lt. front.ordered s (omega (arith, first_is, front.size));
   room = first_is ∙ front.size;
-  wires = wires_grown first (state_widths m) fronts m.wires (widths_of m) ps n1 n3 wires (grows_on n1 n2 n3 nexts.grows line.grows) line.tape;
+  wires = wires_grown first (state_widths m) fronts m.wires (widths_of m) ps n1 n3 wires (grows_on n1 n2 n3
+      nexts.grows line.grows) line.tape;
   count = nexts.count;
   within = within_grown takes n2 n3 line.grows nexts.within;
   fail_within = line.within;

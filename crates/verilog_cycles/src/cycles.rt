@@ -57,7 +57,13 @@ fn take(nexts: &[usize], table: &[u64], state: &mut [u64])
 }
 
 /// Runs a cycle without reset, and gives the output.
-pub(crate) fn run(program: &Program, table: &mut [u64], state: &mut [u64], ports: &[u128], eot: bool) -> bool
+pub(crate) fn run(
+    program: &Program,
+    table: &mut [u64],
+    state: &mut [u64],
+    ports: &[u128],
+    eot: bool,
+) -> bool
     requires size { length table.old ≡ length program.now.nodes.items }
     requires front { program.now.first ≡ 2 + length ports.now + length state.old }
     requires room { program.now.first ≤ length program.now.nodes.items }

@@ -130,7 +130,8 @@ pub(crate) fn ready(
     }
 }
 
-/// Adds the nodes of what a target of this width takes: an expression at the larger of both widths, cut to the target's.
+/// Adds the nodes of what a target of this width takes: an expression at the larger of both widths, cut to the
+/// target's.
 pub(crate) fn line(
     widths: &[u32],
     places: &[usize],

@@ -29,7 +29,12 @@ impl Node {
             Node::Number(number) => number,
             Node::Part(place, low, width) => part(table[place], low, width),
             Node::Unary(op, width, operand) => unary(op, width, table[operand]),
-            Node::Binary(op, context, left, right) => binary(op, context, table[left], table[right]),
+            Node::Binary(op, context, left, right) => binary(
+                op,
+                context,
+                table[left],
+                table[right],
+            ),
             Node::Choice(test, yes, no) => {
                 if table[test] == 0 {
                     table[no]

@@ -139,7 +139,7 @@ fn put_nexts(
     requires none { nexts.old.items ≡ [] }
     ensures { IfOk result (λ _. (first : ℕ) → first ≤ length nodes.old.items →
         AreNexts first widths.now places.now (module_of module.now).registers nexts.new.items
-            nodes.old.items nodes.new.items) }
+        nodes.old.items nodes.new.items) }
 {
     let regs = module.regs.as_slice();
     for at in 0..regs.len() {

@@ -11,7 +11,8 @@ exchange = record {
   name = codes "mbac_exchange";
   report = None;
   ports = [];
-  registers = record { width = 4; initial = 5; next = whole 3 } ∷ record { width = 4; initial = 9; next = whole 2 } ∷ [];
+  registers = record { width = 4; initial = 5; next = whole 3 } ∷ record { width = 4; initial = 9; next = whole 2 } ∷
+      [];
   wires = [];
   fail = binary Eq (whole 2) (sized 4 9);
 }
@@ -23,7 +24,7 @@ comparison op x y z = record {
   report = None;
   ports = [];
   registers = record { width = 64; initial = x; next = whole 2 } ∷ record { width = 64; initial = y; next = whole 3 }
-    ∷ record { width = 64; initial = z; next = whole 4 } ∷ [];
+      ∷ record { width = 64; initial = z; next = whole 4 } ∷ [];
   wires = record { width = 64; value = binary op (whole 2) (whole 3) } ∷ [];
   fail = binary Eq (whole 5) (whole 4);
 }
@@ -37,6 +38,6 @@ counter = record {
   ports = [];
   registers = record { width = 4; initial = 15; next = binary Add (whole 2) (plain 1) } ∷ [];
   wires = record { width = 1; value = binary Eq (binary Add (whole 2) (plain 1)) (plain 0) }
-    ∷ record { width = 1; value = binary Eq (binary Add (whole 2) (sized 4 1)) (sized 4 0) } ∷ [];
+      ∷ record { width = 1; value = binary Eq (binary Add (whole 2) (sized 4 1)) (sized 4 0) } ∷ [];
   fail = choice (whole 1) (whole 4) (whole 3);
 }

@@ -22,10 +22,10 @@ pub record IsProgram (m : Module) (first : ℕ) (nodes : List Node) (takes : Lis
   pub within : All (λ p. p < length nodes) takes
   pub fail_within : fail < length nodes
   pub registers : (table : List ℕ) → Meets first nodes table → FitWidths (widths_of m) (values_at table places) →
-    (k : ℕ) (r : Register) → slice_get m.registers k ≡ Some r →
-    slice_index table (slice_index takes k) ≡ taken (widths_of m) (values_at table places) r.width r.next
+      (k : ℕ) (r : Register) → slice_get m.registers k ≡ Some r →
+      slice_index table (slice_index takes k) ≡ taken (widths_of m) (values_at table places) r.width r.next
   pub output : (table : List ℕ) → Meets first nodes table → FitWidths (widths_of m) (values_at table places) →
-    slice_index table fail ≡ taken (widths_of m) (values_at table places) 1 m.fail
+      slice_index table fail ≡ taken (widths_of m) (values_at table places) 1 m.fail
 
 -- what a machine keeps
 pub record IsLoaded (m : Module) (first : ℕ) (nodes : List Node) (takes : List ℕ) (fail : ℕ) (state table : List ℕ) :

@@ -34,7 +34,7 @@ pub record IsReady (first : ℕ) (widths places : List ℕ) (old new : List Node
   pub tape : IsTape new
   pub within : place < length new
   pub means : (table : List ℕ) → Meets first new table →
-    slice_index table place ≡ value_of widths (values_at table places) context e
+      slice_index table place ≡ value_of widths (values_at table places) context e
 
 pub record IsLine (first : ℕ) (widths places : List ℕ) (old new : List Node) (target : ℕ) (e : Expr) (place : ℕ) :
     Type 0 where
@@ -42,7 +42,7 @@ pub record IsLine (first : ℕ) (widths places : List ℕ) (old new : List Node)
   pub tape : IsTape new
   pub within : place < length new
   pub means : (table : List ℕ) → Meets first new table → FitWidths widths (values_at table places) →
-    slice_index table place ≡ taken widths (values_at table places) target e
+      slice_index table place ≡ taken widths (values_at table places) target e
 
 -- names that stand at their own places
 pub record AreFront (widths places : List ℕ) (nodes : List Node) : Type 0 where
@@ -63,11 +63,11 @@ pub record AreWires (first : ℕ) (front fronts : List ℕ) (wires : List Wire) 
   pub room : first ≤ length nodes
   pub within : All (λ p. p < length nodes) places
   pub fits : (table : List ℕ) → Meets first nodes table → FitWidths front (values_at table fronts) →
-    FitWidths widths (values_at table places)
+      FitWidths widths (values_at table places)
   pub settles : (table : List ℕ) → Meets first nodes table → FitWidths front (values_at table fronts) →
-    (k : ℕ) (w : Wire) → slice_get wires k ≡ Some w →
-    (longer values : List ℕ) → Begins widths longer → Begins (values_at table places) values →
-    slice_index values (length front + k) ≡ taken longer values w.width w.value
+      (k : ℕ) (w : Wire) → slice_get wires k ≡ Some w →
+      (longer values : List ℕ) → Begins widths longer → Begins (values_at table places) values →
+      slice_index values (length front + k) ≡ taken longer values w.width w.value
 
 pub record AreNexts (first : ℕ) (widths places : List ℕ) (registers : List Register) (nexts : List ℕ)
     (old new : List Node) : Type 0 where
@@ -76,5 +76,5 @@ pub record AreNexts (first : ℕ) (widths places : List ℕ) (registers : List R
   pub count : length nexts ≡ length registers
   pub within : All (λ p. p < length new) nexts
   pub means : (table : List ℕ) → Meets first new table → FitWidths widths (values_at table places) →
-    (k : ℕ) (r : Register) → slice_get registers k ≡ Some r →
-    slice_index table (slice_index nexts k) ≡ taken widths (values_at table places) r.width r.next
+      (k : ℕ) (r : Register) → slice_get registers k ≡ Some r →
+      slice_index table (slice_index nexts k) ≡ taken widths (values_at table places) r.width r.next

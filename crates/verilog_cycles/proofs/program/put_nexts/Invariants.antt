@@ -5,4 +5,5 @@ use Rattle.verilog_cycles.proofs.program.put_nexts.Given as goal
 
 abbrev pub invariant-loop-at : goal.invariant-loop-at
 invariant-loop-at l = (first : ℕ) → first ≤ length l.initial.nodes.items →
-    AreNexts first l.widths l.places (map register_of (take l.at l.regs)) l.nexts.items l.initial.nodes.items l.nodes.items
+    AreNexts first l.widths l.places (map register_of (take l.at l.regs)) l.nexts.items l.initial.nodes.items
+    l.nodes.items
