@@ -1,6 +1,6 @@
 -- What tops for ever satisfy, and that what a list satisfies as a word that ends, it satisfies followed by tops.
-use Rattle.std.proofs.Common.{◌≡◌, ◌≢◌, ◌⊎◌, inl, inr, ℕ, zero, suc, ◌+◌, ◌-◌, ◌<◌, ◌≤◌, List, [], ◌∷◌, Some, Bool, true}
-use Rattle.std.proofs.Common.{false, refl, sym, subst, drop, map, length, replicate, arith}
+use Rattle.std.proofs.Common.{◌≡◌, ◌≢◌, ◌⊎◌, inl, inr, ℕ, zero, suc, ◌+◌, ◌-◌, ◌<◌, ◌≤◌, List, [], ◌∷◌, Some, Bool}
+use Rattle.std.proofs.Common.{true, false, refl, sym, subst, drop, map, length, replicate, arith}
 use Rattle.std.specs.Prelude.{slice_get}
 use Rattle.std.proofs.lemmas.Bool.{cases_lt}
 use Rattle.psl_model.specs.Expr.{Expr}
@@ -161,12 +161,14 @@ module _ (laws : Laws) (widths : List ℕ) where
   behind : (r : CoreSere) (xs : List Letter) (n : ℕ) → length xs ≤ n → SomePrefix widths r (with_tops xs) →
       SomePrefix widths r (with_tops (first n (with_tops xs)))
   behind r xs n h s =
-      (laws.letters_decide widths (strong r) (with_tops (first n (with_tops xs))) (with_tops xs) (cut_behind xs n h)).1 s
+      (laws.letters_decide widths (strong r) (with_tops (first n (with_tops xs))) (with_tops xs)
+      (cut_behind xs n h)).1 s
 
   before_cut : (r : CoreSere) (xs : List Letter) (n : ℕ) → length xs ≤ n →
       SomePrefix widths r (with_tops (first n (with_tops xs))) → SomePrefix widths r (with_tops xs)
   before_cut r xs n h s =
-      (laws.letters_decide widths (strong r) (with_tops (first n (with_tops xs))) (with_tops xs) (cut_behind xs n h)).0 s
+      (laws.letters_decide widths (strong r) (with_tops (first n (with_tops xs))) (with_tops xs)
+      (cut_behind xs n h)).0 s
 
   pub weak_lasts : (r : CoreSere) → (n : ℕ) × Tight widths r (replicate (suc n) top) → Lasting (weak r)
   weak_lasts r can = (

@@ -75,8 +75,8 @@ padded (x ∷ xs) more (suc k) = padded xs more k
 pub cut_behind : (xs : List Letter) (n : ℕ) → length xs ≤ n → (k : ℕ) →
     letter_at (with_tops (first n (with_tops xs))) k ≡ letter_at (with_tops xs) k
 cut_behind xs n h k =
-    ap (λ (ys : List Letter). option_or (slice_get (ys ++ replicate (n - length xs) top) k) (Some top)) (take_all n xs h)
-    ∙ padded xs (n - length xs) k
+    ap (λ (ys : List Letter). option_or (slice_get (ys ++ replicate (n - length xs) top) k) (Some top))
+    (take_all n xs h) ∙ padded xs (n - length xs) k
 
 pub first_tops : (n : ℕ) → first n (with_tops []) ≡ replicate n top
 first_tops zero = refl

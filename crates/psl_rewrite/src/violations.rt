@@ -15,8 +15,8 @@ ghost use Rattle.psl_rewrite.specs.Obligations.{EachObligation, CanHappen, IsCon
 use psl_meaning::laws::{bar_of_bar_is_the_word, everywhere_is_each_place, letters_alone_decide};
 use psl_meaning::laws::tops_follow_the_trace;
 
-/// Tops for ever satisfy each base formula whose obligations can happen, and don't violate one that has no contradictory
-/// obligation.
+/// Tops for ever satisfy each base formula whose obligations can happen, and don't violate one that has no
+/// contradictory obligation.
 pub fn tops_for_ever_satisfy()
     ensures satisfied { (widths : List ℕ) (f : Base) → EachObligation (CanHappen widths) (named f) →
         Satisfies widths (core_formula_of (named f)) (with_tops []) }

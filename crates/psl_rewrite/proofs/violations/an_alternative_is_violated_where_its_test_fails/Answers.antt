@@ -7,8 +7,10 @@ use Rattle.psl_rewrite.proofs.violations.an_alternative_is_violated_where_its_te
 
 pub returns-clause-so_far : goal.returns-clause-so_far
 returns-clause-so_far c widths e f values rest =
-    refutes_or_bool c.bar_of_bar_is_the_word.ensures widths e (core_formula_of (named f)) values (map valuation rest) tops
+    let twice = c.bar_of_bar_is_the_word.ensures in
+    refutes_or_bool twice widths e (core_formula_of (named f)) values (map valuation rest) tops
 
 pub returns-clause-whole : goal.returns-clause-whole
 returns-clause-whole c widths e f values rest =
-    refutes_or_bool c.bar_of_bar_is_the_word.ensures widths e (core_formula_of (named f)) values (map valuation rest) ended
+    let twice = c.bar_of_bar_is_the_word.ensures in
+    refutes_or_bool twice widths e (core_formula_of (named f)) values (map valuation rest) ended

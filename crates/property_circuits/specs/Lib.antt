@@ -1,0 +1,5 @@
+pub mod Conditions
+pub mod Counts
+pub mod Starts
+pub mod Checks
+pub mod Refusals
