@@ -15,8 +15,8 @@ grows_same a b x same = record {
   kept = x;
   count = omega (arith, ap (λ rs. length rs) same);
   nexts = λ r y past at.
-    let inside : r < length b.registers = slice_get_within b.registers r y at in
-    absurd (omega (arith, ap (λ rs. length rs) same));
+      let inside : r < length b.registers = slice_get_within b.registers r y at in
+      absurd (omega (arith, ap (λ rs. length rs) same));
 }
 
 -- with one that is made, and set when nets have been put
@@ -27,16 +27,17 @@ grows_set a b c r width initial next x number one there set = record {
   kept = x;
   count = omega (arith, size);
   nexts = λ q y past at.
-    let inside : q < length c.registers = slice_get_within c.registers q y at in
-    let is : q ≡ r = omega (arith, size) in
-    let now : slice_get c.registers q ≡ Some (closed width initial next) =
-    ap (λ (k : ℕ). slice_get c.registers k) is ∙ set.sets width initial there in
-    let same : closed width initial next ≡ y = same_Some (closed width initial next) y (sym now ∙ at) in
-    subst (λ (z : Register). IsSome z.next) same refl_some;
+      let inside : q < length c.registers = slice_get_within c.registers q y at in
+      let is : q ≡ r = omega (arith, size) in
+      let now : slice_get c.registers q ≡ Some (closed width initial next) =
+      ap (λ (k : ℕ). slice_get c.registers k) is ∙ set.sets width initial there in
+      let same : closed width initial next ≡ y = same_Some (closed width initial next) y (sym now ∙ at) in
+      subst (λ (z : Register). IsSome z.next) same refl_some;
 }
   where
     size : length c.registers ≡ length a.registers + 1
     size = set.count ∙ ap (λ rs. length rs) one ∙ length-append a.registers (opened width initial ∷ [])
+
     refl_some : IsSome (Some next)
     refl_some = refl
 

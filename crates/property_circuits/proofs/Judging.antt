@@ -105,6 +105,7 @@ module _ (V : Base → List Valuation → Type 0) (stable : (f : Base) (ls : Lis
     where
       ls : List Valuation
       ls = letters trace i m
+
       split : (j : ℕ) → j < places (length ls) → ((m - i) < j) ⊎ (j ≤ (m - i)) → ¬ V f (drop j ls)
       split j inside (inr early) = at_place f i m j ordered early each
       split j inside (inl late) =
@@ -120,7 +121,7 @@ module _ (V : Base → List Valuation → Type 0) (stable : (f : Base) (ls : Lis
   always_at cycles places f is more few last law = record {
     hit = λ i m k from to within there. always_hit places f more law i m k from to (omega (arith, is));
     miss = λ i m ordered within each.
-      always_miss places f few last law i m ordered (omega (arith, is)) (λ k from to. each k from to tt);
+        always_miss places f few last law i m ordered (omega (arith, is)) (λ k from to. each k from to tt);
   }
 
 -- a formula of the variants that are built obliges to no sequence
@@ -181,26 +182,27 @@ module _ (widths : List ℕ) where
         BooleanLaw Already stable_already trace (λ v. own_value widths v e ≡ 0) (bool e) →
         BooleanLaw AtLast stable_at_last trace (λ v. own_value widths v e ≡ 0) (bool e) →
         ((n : ℕ) (v : Valuation) → n < length trace → slice_get trace n ≡ Some v →
-          On fail n ↔ (On start n × ¬ On clear n × (own_value widths v e ≡ 0))) →
+        On fail n ↔ (On start n × ¬ On clear n × (own_value widths v e ≡ 0))) →
         ((n : ℕ) → n < length trace → ¬ On pend n) → IsCheck widths trace (bool e) start clear fail pend
     bool_check e start clear fail pend already at_last fails never =
         bool_answers (length trace) (Weak widths trace (bool e)) (Full widths trace (bool e)) start clear fail pend
         (λ n within.
-          let v = value_there trace n within in
-          let f = fails n v.0 within v.1 in
-          let w = weak n n v.0 (omega arith) v.1 in
-          ((λ on. let p = f.0 on in (p.0, p.1, w.1 p.2)), (λ p. f.1 (p.0, p.1, w.0 p.2))))
+        let v = value_there trace n within in
+        let f = fails n v.0 within v.1 in
+        let w = weak n n v.0 (omega arith) v.1 in
+        ((λ on. let p = f.0 on in (p.0, p.1, w.1 p.2)), (λ p. f.1 (p.0, p.1, w.0 p.2))))
         never
         (λ i m ordered within bad.
-          let v = value_there trace i (omega arith) in
-          (weak i i v.0 (omega arith) v.1).1 ((weak i m v.0 ordered v.1).0 bad))
+        let v = value_there trace i (omega arith) in
+        (weak i i v.0 (omega arith) v.1).1 ((weak i m v.0 ordered v.1).0 bad))
         (λ i m ordered within bad.
-          let v = value_there trace i (omega arith) in
-          (weak i i v.0 (omega arith) v.1).1 ((full i m v.0 ordered v.1).0 bad))
+        let v = value_there trace i (omega arith) in
+        (weak i i v.0 (omega arith) v.1).1 ((full i m v.0 ordered v.1).0 bad))
       where
         weak : (i m : ℕ) (v : Valuation) → i ≤ m → slice_get trace i ≡ Some v →
             Weak widths trace (bool e) i m ↔ (own_value widths v e ≡ 0)
         weak = boolean_at Already stable_already trace (λ v. own_value widths v e ≡ 0) (bool e) already
+
         full : (i m : ℕ) (v : Valuation) → i ≤ m → slice_get trace i ≡ Some v →
             Full widths trace (bool e) i m ↔ (own_value widths v e ≡ 0)
         full = boolean_at AtLast stable_at_last trace (λ v. own_value widths v e ≡ 0) (bool e) at_last
@@ -225,9 +227,9 @@ module _ (widths : List ℕ) where
         narrowed_answers (length trace) (Needs trace P) (Weak widths trace whole) (Weak widths trace f)
         (Full widths trace whole) (Full widths trace f) start start1 clear fail pend body
         (λ n within.
-          let v = value_there trace n within in
-          let s = starts n v.0 v.1 in
-          ((λ on. let p = s.0 on in (p.0, needs_at trace n v.0 P v.1 p.1)), (λ p. s.1 (p.0, p.1 v.0 v.1))))
+        let v = value_there trace n within in
+        let s = starts n v.0 v.1 in
+        ((λ on. let p = s.0 on in (p.0, needs_at trace n v.0 P v.1 p.1)), (λ p. s.1 (p.0, p.1 v.0 v.1))))
         (narrowed_at Already stable_already trace (length trace) P whole f refl already)
         (narrowed_at AtLast stable_at_last trace (length trace) P whole f refl at_last)
 
@@ -240,6 +242,6 @@ module _ (widths : List ℕ) where
         always_answers (length trace) (Weak widths trace (always f)) (Weak widths trace f)
         (Full widths trace (always f)) (Full widths trace f) start start1 clear fail pend body starts
         (always_at Already stable_already trace (length trace) (λ n. suc n) f refl
-          (λ n. omega arith) (λ n. omega arith) (λ n behind. nothing) already)
+        (λ n. omega arith) (λ n. omega arith) (λ n behind. nothing) already)
         (always_at AtLast stable_at_last trace (length trace) (λ n. n) f refl
-          (λ n. omega arith) (λ n. omega arith) (λ n behind. absurd (omega arith)) at_last)
+        (λ n. omega arith) (λ n. omega arith) (λ n behind. absurd (omega arith)) at_last)

@@ -23,9 +23,10 @@ letters_begin trace i m v ordered at =
     let e : drop i trace ≡ v ∷ drop (suc i) trace =
     drop-cons trace i v within
     ∙ ap (λ (x : Valuation). x ∷ drop (suc i) trace) (get_or_from_slice_get trace i v v at) in
-    let counted : suc m - i ≡ suc (m - i) = omega arith in
-    (take (m - i) (drop (suc i) trace),
-      ap (λ (n : ℕ). take n (drop i trace)) counted ∙ ap (λ (xs : List Valuation). take (suc (m - i)) xs) e)
+    let counted : suc m - i ≡ suc (m - i) = omega arith in (
+      take (m - i) (drop (suc i) trace),
+      ap (λ (n : ℕ). take n (drop i trace)) counted ∙ ap (λ (xs : List Valuation). take (suc (m - i)) xs) e,
+    )
 
 pub letters_later : (trace : List Valuation) (i k m : ℕ) → i ≤ k → k ≤ suc m →
     drop (k - i) (letters trace i m) ≡ letters trace k m

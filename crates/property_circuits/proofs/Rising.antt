@@ -57,15 +57,15 @@ module _ (widths : List ℕ) (trace : List Valuation) (f : Base) (persists : Per
       ComesBy out n ↔ WeaklyViolates widths (named f) (take (suc n) trace)
   rises no_end n within = (
     (λ come.
-      let fails = failed come.0 (omega arith) ((w.outs come.0 (omega arith)).0 come.2) in
-      subst (λ (ls : List Valuation). WeaklyViolates widths (named f) ls) (letters_first trace n)
-      (violated_first n within (come.0, come.1, fails))),
+        let fails = failed come.0 (omega arith) ((w.outs come.0 (omega arith)).0 come.2) in
+        subst (λ (ls : List Valuation). WeaklyViolates widths (named f) ls) (letters_first trace n)
+        (violated_first n within (come.0, come.1, fails))),
     (λ bad.
-      let here : Weak widths trace f 0 n =
-      subst (λ (ls : List Valuation). WeaklyViolates widths (named f) ls) (sym (letters_first trace n)) bad in
-      let c = (w.check.fails n within).1
-      (0, omega arith, begun (omega arith), (n, omega arith, omega arith, never_cleared n within, here)) in
-      (c.0, c.1, (w.outs c.0 (omega arith)).1 (inl c.2))),
+        let here : Weak widths trace f 0 n =
+        subst (λ (ls : List Valuation). WeaklyViolates widths (named f) ls) (sym (letters_first trace n)) bad in
+        let c = (w.check.fails n within).1
+        (0, omega arith, begun (omega arith), (n, omega arith, omega arith, never_cleared n within, here)) in
+        (c.0, c.1, (w.outs c.0 (omega arith)).1 (inl c.2))),
   )
     where
       failed : (k : ℕ) → k < length trace → On fail k ⊎ (On eot k × On pend k) → On fail k
@@ -81,16 +81,20 @@ module _ (widths : List ℕ) (trace : List Valuation) (f : Base) (persists : Per
     where
       all : letters trace 0 last ≡ trace
       all = letters_first trace last ∙ ap (λ (n : ℕ). take n trace) is_last ∙ take-length trace
+
       some : trace ≢ []
       some none = absurd (omega (arith, is_last, ap (λ (ls : List Valuation). length ls) none))
+
       by_fail : ComesBy fail last → Violates widths (named f) trace
       by_fail come =
           weak_is_full trace some
           (subst (λ (ls : List Valuation). WeaklyViolates widths (named f) ls) all
           (violated_first last (omega arith) come))
+
       none_violated : NeverBy fail last → ¬ ((i : ℕ) × (i ≤ last) × On start i ×
           ((m : ℕ) × (i ≤ m) × (m ≤ last) × Open clear i m × Weak widths trace f i m))
       none_violated none bad = let c = (w.check.fails last (omega arith)).1 bad in none c.0 c.1 c.2
+
       by_pend : On pend last → ComesBy fail last ⊎ NeverBy fail last → Violates widths (named f) trace
       by_pend on (inl come) = by_fail come
       by_pend on (inr none) =
@@ -98,11 +102,13 @@ module _ (widths : List ℕ) (trace : List Valuation) (f : Base) (persists : Per
           let first : s.0 ≡ 0 = (w.starts s.0 (omega arith)).0 s.2 in
           let here : Full widths trace f 0 last = subst (λ (i : ℕ). Full widths trace f i last) first s.3.1 in
           subst (λ (ls : List Valuation). Violates widths (named f) ls) all here
+
       from_out : (k : ℕ) → k ≤ last → On fail k ⊎ (On eot k × On pend k) → Violates widths (named f) trace
       from_out k below (inl on) = by_fail (k, below, on)
       from_out k below (inr p) =
           let e : k ≡ last = (at_end k (omega arith)).0 p.0 in
           by_pend (subst (λ (j : ℕ). On pend j) e p.1) (comes_or_not fail last)
+
       to_out : Violates widths (named f) trace → ComesBy fail last ⊎ NeverBy fail last → ComesBy out last
       to_out bad (inl come) = (come.0, come.1, (w.outs come.0 (omega arith)).1 (inl come.2))
       to_out bad (inr none) =

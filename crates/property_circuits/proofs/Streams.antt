@@ -29,6 +29,7 @@ comes_or_not s (suc n) = split (comes_or_not s n) (on_or_off s (suc n))
     last : NeverBy s n → ¬ On s (suc n) → (k : ℕ) → k ≤ suc n → (n < k) ⊎ (k ≤ n) → ¬ On s k
     last before now k below (inl late) = subst (λ (j : ℕ). ¬ On s j) (omega arith) now
     last before now k below (inr early) = before k early
+
     split : ComesBy s n ⊎ NeverBy s n → On s (suc n) ⊎ ¬ On s (suc n) → ComesBy s (suc n) ⊎ NeverBy s (suc n)
     split (inl some) now = inl (some.0, omega arith, some.2)
     split (inr none) (inl on) = inl (suc n, omega arith, on)
@@ -61,18 +62,18 @@ pub bool_answers : (cycles : ℕ) (Weak Full : Judgement) (start clear fail pend
 bool_answers cycles Weak Full start clear fail pend fails never weak full = record {
   fails = λ n within. (
     (λ come. let now = (fails come.0 (omega arith)).0 come.2 in
-      (come.0, come.1, now.0, (come.0, omega arith, come.1, open_one clear come.0 now.1, now.2))),
+        (come.0, come.1, now.0, (come.0, omega arith, come.1, open_one clear come.0 now.1, now.2))),
     (λ some. let bad = some.3 in
-      let off = bad.3 some.0 (omega arith) bad.1 in
-      let now = weak some.0 bad.0 bad.1 (omega arith) bad.4 in
-      (some.0, some.1, (fails some.0 (omega arith)).1 (some.2, off, now))),
+        let off = bad.3 some.0 (omega arith) bad.1 in
+        let now = weak some.0 bad.0 bad.1 (omega arith) bad.4 in
+        (some.0, some.1, (fails some.0 (omega arith)).1 (some.2, off, now))),
   );
   pends = λ n within none. (
     (λ on. absurd (never n within on)),
     (λ some.
-      let open_ = open_to clear some.0 n some.0 some.3.0 some.1 in
-      let now = full some.0 n some.1 within some.3.1 in
-      absurd (none (some.0, some.1, some.2, (some.0, omega arith, some.1, open_, now)))),
+        let open_ = open_to clear some.0 n some.0 some.3.0 some.1 in
+        let now = full some.0 n some.1 within some.3.1 in
+        absurd (none (some.0, some.1, some.2, (some.0, omega arith, some.1, open_, now)))),
   );
 }
 
@@ -92,27 +93,30 @@ pub and_answers : (cycles : ℕ) (Weak Weak1 Weak2 Full Full1 Full2 : Judgement)
     IsEither Weak Weak1 Weak2 → IsEither Full Full1 Full2 → Answers cycles Weak Full start clear fail pend
 and_answers cycles Weak Weak1 Weak2 Full Full1 Full2 start clear fail fail1 fail2 pend pend1 pend2
     one two fails pends weak full = record {
-  fails = λ n within. (comes n within, λ some. came n within some (comes_or_not fail n));
-  pends = λ n within none. (
-    (λ on. elim ((pends n within).0 on) [
-      | inl on1 ↦ (let some = (one.pends n within (λ some1. none (weak1 n some1))).0 on1 in
-        (some.0, some.1, some.2, (some.3.0, (full some.0 n).0 some.3.1)))
-      | inr on2 ↦ (let some = (two.pends n within (λ some2. none (weak2 n some2))).0 on2 in
-        (some.0, some.1, some.2, (some.3.0, (full some.0 n).1 some.3.1)))
-    ]),
-    (λ some. pended n within none some (on_or_off pend n)),
-  );
-}
+      fails = λ n within. (comes n within, λ some. came n within some (comes_or_not fail n));
+      pends = λ n within none. (
+        (λ on. elim ((pends n within).0 on) [
+          | inl on1 ↦ (let some = (one.pends n within (λ some1. none (weak1 n some1))).0 on1 in
+              (some.0, some.1, some.2, (some.3.0, (full some.0 n).0 some.3.1)))
+          | inr on2 ↦ (let some = (two.pends n within (λ some2. none (weak2 n some2))).0 on2 in
+              (some.0, some.1, some.2, (some.3.0, (full some.0 n).1 some.3.1)))
+        ]),
+        (λ some. pended n within none some (on_or_off pend n)),
+      );
+    }
   where
     weak1 : (n : ℕ) → SomeStart start n (HasViolated Weak1 clear n) → SomeStart start n (HasViolated Weak clear n)
     weak1 n s = (s.0, s.1, s.2, (s.3.0, s.3.1, s.3.2, s.3.3, (weak s.0 s.3.0).0 s.3.4))
+
     weak2 : (n : ℕ) → SomeStart start n (HasViolated Weak2 clear n) → SomeStart start n (HasViolated Weak clear n)
     weak2 n s = (s.0, s.1, s.2, (s.3.0, s.3.1, s.3.2, s.3.3, (weak s.0 s.3.0).1 s.3.4))
+
     comes : (n : ℕ) → n < cycles → ComesBy fail n → SomeStart start n (HasViolated Weak clear n)
     comes n within come = elim ((fails come.0 (omega arith)).0 come.2) [
       | inl on1 ↦ weak1 n ((one.fails n within).0 (come.0, come.1, on1))
       | inr on2 ↦ weak2 n ((two.fails n within).0 (come.0, come.1, on2))
     ]
+
     came : (n : ℕ) → n < cycles → SomeStart start n (HasViolated Weak clear n) → ComesBy fail n ⊎ NeverBy fail n →
         ComesBy fail n
     came n within some (inl come) = come
@@ -120,10 +124,11 @@ and_answers cycles Weak Weak1 Weak2 Full Full1 Full2 start clear fail fail1 fail
         let bad = some.3 in
         absurd ((weak some.0 bad.0).2
         (λ w. let c = (one.fails n within).1 (some.0, some.1, some.2, (bad.0, bad.1, bad.2, bad.3, w)) in
-          none c.0 c.1 ((fails c.0 (omega arith)).1 (inl c.2)))
+        none c.0 c.1 ((fails c.0 (omega arith)).1 (inl c.2)))
         (λ w. let c = (two.fails n within).1 (some.0, some.1, some.2, (bad.0, bad.1, bad.2, bad.3, w)) in
-          none c.0 c.1 ((fails c.0 (omega arith)).1 (inr c.2)))
+        none c.0 c.1 ((fails c.0 (omega arith)).1 (inr c.2)))
         bad.4)
+
     pended : (n : ℕ) → n < cycles → ¬ SomeStart start n (HasViolated Weak clear n) →
         SomeStart start n (Pends Full clear n) → On pend n ⊎ ¬ On pend n → On pend n
     pended n within none some (inl on) = on
@@ -151,12 +156,13 @@ narrowed_answers cycles Needs Weak Weak1 Full Full1 start start1 clear fail pend
     (λ some. (body.fails n within).1 (into n within some)),
   );
   pends = λ n within none.
-    let same = body.pends n within (λ s. none (out n within s)) in
-    ((λ on. let s = same.0 on in
-      let here = (starts s.0 (omega arith)).0 s.2 in
-      (s.0, s.1, here.0, (s.3.0, (full s.0 n s.1 within).1 (here.1, s.3.1)))),
-    (λ s. let here = (full s.0 n s.1 within).0 s.3.1 in
-      same.1 (s.0, s.1, (starts s.0 (omega arith)).1 (s.2, here.0), (s.3.0, here.1))));
+      let same = body.pends n within (λ s. none (out n within s)) in (
+        (λ on. let s = same.0 on in
+            let here = (starts s.0 (omega arith)).0 s.2 in
+            (s.0, s.1, here.0, (s.3.0, (full s.0 n s.1 within).1 (here.1, s.3.1)))),
+        (λ s. let here = (full s.0 n s.1 within).0 s.3.1 in
+            same.1 (s.0, s.1, (starts s.0 (omega arith)).1 (s.2, here.0), (s.3.0, here.1))),
+      );
 }
   where
     out : (n : ℕ) → n < cycles → SomeStart start1 n (HasViolated Weak1 clear n) →
@@ -166,6 +172,7 @@ narrowed_answers cycles Needs Weak Weak1 Full Full1 start start1 clear fail pend
         let here = (starts s.0 (omega arith)).0 s.2 in
         let now = (weak s.0 bad.0 bad.1 (omega arith)).1 (here.1, bad.4) in
         (s.0, s.1, here.0, (bad.0, bad.1, bad.2, bad.3, now))
+
     into : (n : ℕ) → n < cycles → SomeStart start n (HasViolated Weak clear n) →
         SomeStart start1 n (HasViolated Weak1 clear n)
     into n within s =
@@ -191,12 +198,13 @@ suffix_answers cycles Reached Weak Weak1 Full Full1 start start1 clear fail pend
     (λ some. came n within some (comes_or_not fail n)),
   );
   pends = λ n within none.
-    let same = body.pends n within (λ s. none (out n within s)) in
-    ((λ on. let s = same.0 on in
-      let from = (starts s.0 (omega arith)).0 s.2 in
-      let now = full.hit from.0 n s.0 from.1 s.1 within from.3.1 s.3.1 in
-      (from.0, omega arith, from.2, (open_join clear from.0 s.0 n from.3.0 s.3.0, now))),
-    (λ s. pended n within s (λ on. same.1 on) (on_or_off pend n)));
+      let same = body.pends n within (λ s. none (out n within s)) in (
+        (λ on. let s = same.0 on in
+            let from = (starts s.0 (omega arith)).0 s.2 in
+            let now = full.hit from.0 n s.0 from.1 s.1 within from.3.1 s.3.1 in
+            (from.0, omega arith, from.2, (open_join clear from.0 s.0 n from.3.0 s.3.0, now))),
+        (λ s. pended n within s (λ on. same.1 on) (on_or_off pend n)),
+      );
 }
   where
     out : (n : ℕ) → n < cycles → SomeStart start1 n (HasViolated Weak1 clear n) →
@@ -204,9 +212,13 @@ suffix_answers cycles Reached Weak Weak1 Full Full1 start start1 clear fail pend
     out n within s =
         let bad = s.3 in
         let from = (starts s.0 (omega arith)).0 s.2 in
-        let now = weak.hit from.0 bad.0 s.0 from.1 bad.1 (omega arith) from.3.1 bad.4 in
-        (from.0, omega arith, from.2,
-          (bad.0, omega arith, bad.2, open_join clear from.0 s.0 bad.0 from.3.0 bad.3, now))
+        let now = weak.hit from.0 bad.0 s.0 from.1 bad.1 (omega arith) from.3.1 bad.4 in (
+          from.0,
+          omega arith,
+          from.2,
+          (bad.0, omega arith, bad.2, open_join clear from.0 s.0 bad.0 from.3.0 bad.3, now),
+        )
+
     came : (n : ℕ) → n < cycles → SomeStart start n (HasViolated Weak clear n) → ComesBy fail n ⊎ NeverBy fail n →
         ComesBy fail n
     came n within s (inl come) = come
@@ -214,19 +226,20 @@ suffix_answers cycles Reached Weak Weak1 Full Full1 start start1 clear fail pend
         let bad = s.3 in
         absurd (weak.miss s.0 bad.0 bad.1 (omega arith)
         (λ k from to there w.
-          let begun = (starts k (omega arith)).1 (s.0, from, s.2, (open_to clear s.0 bad.0 k bad.3 to, there)) in
-          let kept = open_from clear s.0 bad.0 k bad.3 from in
-          let c = (body.fails n within).1 (k, omega arith, begun, (bad.0, to, bad.2, kept, w)) in
-          none c.0 c.1 c.2)
+        let begun = (starts k (omega arith)).1 (s.0, from, s.2, (open_to clear s.0 bad.0 k bad.3 to, there)) in
+        let kept = open_from clear s.0 bad.0 k bad.3 from in
+        let c = (body.fails n within).1 (k, omega arith, begun, (bad.0, to, bad.2, kept, w)) in
+        none c.0 c.1 c.2)
         bad.4)
+
     pended : (n : ℕ) → n < cycles → SomeStart start n (Pends Full clear n) →
         (SomeStart start1 n (Pends Full1 clear n) → On pend n) → On pend n ⊎ ¬ On pend n → On pend n
     pended n within s same (inl on) = on
     pended n within s same (inr off) =
         absurd (full.miss s.0 n s.1 within
         (λ k from to there v.
-          let begun = (starts k (omega arith)).1 (s.0, from, s.2, (open_to clear s.0 n k s.3.0 to, there)) in
-          off (same (k, to, begun, (open_from clear s.0 n k s.3.0 from, v))))
+        let begun = (starts k (omega arith)).1 (s.0, from, s.2, (open_to clear s.0 n k s.3.0 to, there)) in
+        off (same (k, to, begun, (open_from clear s.0 n k s.3.0 from, v))))
         s.3.1)
 
 -- ---- a body that is started in each cycle in which a start is open
@@ -242,7 +255,7 @@ pub always_answers : (cycles : ℕ) (Weak Weak1 Full Full1 : Judgement) (start s
 always_answers cycles Weak Weak1 Full Full1 start start1 clear fail pend body starts weak full =
     suffix_answers cycles Always Weak Weak1 Full Full1 start start1 clear fail pend body
     (λ n within. let s = starts n within in
-      ((λ on. let x = s.0 on in (x.0, x.1, x.2, (x.3, tt))), (λ x. s.1 (x.0, x.1, x.2, x.3.0))))
+    ((λ on. let x = s.0 on in (x.0, x.1, x.2, (x.3, tt))), (λ x. s.1 (x.0, x.1, x.2, x.3.0))))
     weak full
 
 -- ---- the register of an open start: it holds what was open in the cycle before
@@ -263,12 +276,14 @@ open_step start clear held live n before follows lives = (
       | inl now ↦ subst (λ (j : ℕ). ¬ On clear j) (omega arith) off
       | inr old ↦ subst (λ (j : ℕ). ¬ On clear j) (omega arith) was
     ]
+
     out : ¬ On clear (suc n) → On start (suc n) ⊎ On held (suc n) →
         SomeStart start (suc n) (λ i. Open clear i (suc n))
     out off (inl s) = (suc n, omega arith, s, open_one clear (suc n) off)
     out off (inr h) =
         let s = before.0 (λ e. h (follows ∙ e)) in
         (s.0, omega arith, s.2, open_join clear s.0 n (suc n) s.3 (later off (s.3 n s.1 (omega arith))))
+
     now_or_held : (s : SomeStart start (suc n) (λ i. Open clear i (suc n))) → (n < s.0) ⊎ (s.0 ≤ n) →
         On start (suc n) ⊎ On held (suc n)
     now_or_held s (inl new) = inl (subst (λ (j : ℕ). On start j) (omega arith) s.2)
@@ -283,7 +298,7 @@ pub open_starts : (cycles : ℕ) (start clear held live : Stream) → (0 < cycle
 open_starts cycles start clear held live begins follows lives zero within = (
   (λ on. let now = (lives 0 within).0 on in out now.1 now.0),
   (λ s. (lives 0 within).1
-    (inl (subst (λ (j : ℕ). On start j) (omega arith) s.2), s.3 0 (omega arith) (omega arith))),
+      (inl (subst (λ (j : ℕ). On start j) (omega arith) s.2), s.3 0 (omega arith) (omega arith))),
 )
   where
     out : ¬ On clear 0 → On start 0 ⊎ On held 0 → SomeStart start 0 (λ i. Open clear i 0)

@@ -2,6 +2,7 @@
 
 ghost use Rattle.std.specs.Prelude.{◌≡◌, ◌≢◌, ◌↔◌, ◌⊎◌, ◌≤◌, ◌+◌, ℕ, List, [], None, All, IfOk, IfErr, OnOk, IsErrOf};
 ghost use Rattle.psl_rewrite.specs.View.{base_of};
+ghost use Rattle.psl_rewrite.specs.Meaning.{named};
 ghost use Rattle.circuit_core.specs.Netlist.{IsNet};
 ghost use Rattle.circuit_core.specs.Run.{On, Throughout, InEachRun, InEachCycle};
 ghost use Rattle.circuit_core.specs.Growth.{Extends, Grows};
@@ -35,24 +36,13 @@ pub struct Circuit {
 /// told as 2^63.
 #[derive(Clone, Copy, Debug, PartialEq, Eq)]
 pub enum CircuitError {
-    TooManyPlaces {
-        sequence: u32,
-        places: u64,
-    },
+    TooManyPlaces { sequence: u32, places: u64 },
     /// Nothing can meet this sequence.
-    Contradiction {
-        sequence: u32,
-    },
-    SequenceTooLarge {
-        sequence: u32,
-    },
+    Contradiction { sequence: u32 },
+    SequenceTooLarge { sequence: u32 },
     /// The registers would have so many bits.
-    TooManyRegisters {
-        count: u64,
-    },
-    TooManySteps {
-        count: u64,
-    },
+    TooManyRegisters { count: u64 },
+    TooManySteps { count: u64 },
     OutOfMemory,
 }
 
@@ -109,7 +99,7 @@ fn whole_check(alloc: Global, base: &Base, widths: &[u32]) -> Result<Netlist, Al
     requires built { IsBuilt (base_of base.now) }
     requires widths { All IsWidth widths.now }
     requires guards { HasGuards widths.now (base_of base.now) }
-    ensures checks { IfOk result (λ m. Checks m widths.now (base_of base.now)) }
+    ensures checks { IfOk result (λ m. Checks m widths.now (named (base_of base.now))) }
     ensures finished { IfOk result (λ m. IsFinished m) }
     ensures widths { IfOk result (λ m. m.widths ≡ widths.now) }
     ensures bits { IfOk result (λ m. register_bits m ≤ budget_of (base_of base.now)) }
@@ -139,14 +129,13 @@ pub fn check_circuit(
     requires widths { All IsWidth widths.now }
     requires guards { HasGuards widths.now (base_of base.now) }
     requires steps_left { steps_left ≤ step_limit }
-    ensures checks { IfOk result (λ x. Checks x.netlist widths.now (base_of base.now)) }
+    ensures checks { IfOk result (λ x. Checks x.netlist widths.now (named (base_of base.now))) }
     ensures finished { IfOk result (λ x. IsFinished x.netlist) }
     ensures widths { IfOk result (λ x. x.netlist.widths ≡ widths.now) }
     ensures bits { IfOk result (λ x. register_bits x.netlist ≤ budget_of (base_of base.now)) }
     ensures steps { IfOk result (λ x. x.steps ≡ steps_of (base_of base.now)) }
     ensures refused { IfErr result (λ e. IsRefusal (base_of base.now) steps_left e) }
-    ensures too_many_registers {
-        IsErrOf result (CircuitError.TooManyRegisters (told (budget_of (base_of base.now))))
+    ensures too_many_registers { IsErrOf result (CircuitError.TooManyRegisters (told (budget_of (base_of base.now))))
         ↔ HasTooManyRegisters (base_of base.now) }
 {
     let count = told_sum(1, count_registers(base));

@@ -13,7 +13,9 @@ ghost use Rattle.property_circuits.specs.Starts.{IsCheck, IsCheckIn};
 
 use circuit_core::laws::extensions_join;
 use circuit_core::{Check, Net, Netlist};
-use psl_meaning::laws::{always_is_its_body_at_each_place, always_is_its_body_at_each_place_so_far};
+use psl_meaning::laws::{
+    always_is_its_body_at_each_place, always_is_its_body_at_each_place_so_far,
+};
 use psl_model::Expr;
 use psl_rewrite::violations::{
     a_boolean_is_judged_by_the_first_letter, a_conjunction_is_violated_by_a_side,

@@ -1,6 +1,5 @@
 ghost use Rattle.std.specs.Prelude.{◌≡◌, ◌<◌, ◌≤◌, [], ◌∷◌, IfOk, length};
 ghost use Rattle.psl_model.specs.View.{expr_of};
-ghost use Rattle.psl_rewrite.specs.View.{base_of};
 ghost use Rattle.circuit_core.specs.WellMade.{IsGuard};
 ghost use Rattle.property_circuits.specs.Conditions.{IsBuilt, HasGuards};
 
@@ -14,8 +13,11 @@ use std::test::Fail;
 
 // Signals of one bit: a, b, the one that starts and the one that clears.
 const A: usize = 0;
+
 const B: usize = 1;
+
 const START: usize = 2;
+
 const CLEAR: usize = 3;
 
 fn signal(place: usize) -> Expr
@@ -25,54 +27,52 @@ fn signal(place: usize) -> Expr
     Expr::Whole(place)
 }
 
-fn holds(place: usize) -> Base
+fn holds(alloc: Global, place: usize) -> Result<Subbase, AllocError>
     requires { place < 4 }
-    ensures built { IsBuilt (base_of result) }
-    ensures guards { HasGuards (1 ∷ 1 ∷ 1 ∷ 1 ∷ []) (base_of result) }
+    ensures built { IfOk result (λ f. IsBuilt f) }
+    ensures guards { IfOk result (λ f. HasGuards (1 ∷ 1 ∷ 1 ∷ 1 ∷ []) f) }
 {
-    Base::Bool(signal(place))
+    Subbase::new(alloc, Base::Bool(signal(place)))
 }
 
-fn always(alloc: Global, body: Base) -> Result<Base, AllocError>
-    requires built { IsBuilt (base_of body) }
-    requires guards { HasGuards (1 ∷ 1 ∷ 1 ∷ 1 ∷ []) (base_of body) }
-    ensures built { IfOk result (λ f. IsBuilt (base_of f)) }
-    ensures guards { IfOk result (λ f. HasGuards (1 ∷ 1 ∷ 1 ∷ 1 ∷ []) (base_of f)) }
+fn always(alloc: Global, body: Subbase) -> Result<Subbase, AllocError>
+    requires built { IsBuilt body }
+    requires guards { HasGuards (1 ∷ 1 ∷ 1 ∷ 1 ∷ []) body }
+    ensures built { IfOk result (λ f. IsBuilt f) }
+    ensures guards { IfOk result (λ f. HasGuards (1 ∷ 1 ∷ 1 ∷ 1 ∷ []) f) }
 {
-    Ok(Base::Always(Subbase::new(alloc, body)?))
+    Subbase::new(alloc, Base::Always(body))
 }
 
-fn implies(alloc: Global, place: usize, body: Base) -> Result<Base, AllocError>
+fn implies(alloc: Global, place: usize, body: Subbase) -> Result<Subbase, AllocError>
     requires place { place < 4 }
-    requires built { IsBuilt (base_of body) }
-    requires guards { HasGuards (1 ∷ 1 ∷ 1 ∷ 1 ∷ []) (base_of body) }
-    ensures built { IfOk result (λ f. IsBuilt (base_of f)) }
-    ensures guards { IfOk result (λ f. HasGuards (1 ∷ 1 ∷ 1 ∷ 1 ∷ []) (base_of f)) }
+    requires built { IsBuilt body }
+    requires guards { HasGuards (1 ∷ 1 ∷ 1 ∷ 1 ∷ []) body }
+    ensures built { IfOk result (λ f. IsBuilt f) }
+    ensures guards { IfOk result (λ f. HasGuards (1 ∷ 1 ∷ 1 ∷ 1 ∷ []) f) }
 {
-    Ok(Base::Implies(signal(place), Subbase::new(alloc, body)?))
+    Subbase::new(alloc, Base::Implies(signal(place), body))
 }
 
-fn or(alloc: Global, place: usize, body: Base) -> Result<Base, AllocError>
+fn or(alloc: Global, place: usize, body: Subbase) -> Result<Subbase, AllocError>
     requires place { place < 4 }
-    requires built { IsBuilt (base_of body) }
-    requires guards { HasGuards (1 ∷ 1 ∷ 1 ∷ 1 ∷ []) (base_of body) }
-    ensures built { IfOk result (λ f. IsBuilt (base_of f)) }
-    ensures guards { IfOk result (λ f. HasGuards (1 ∷ 1 ∷ 1 ∷ 1 ∷ []) (base_of f)) }
+    requires built { IsBuilt body }
+    requires guards { HasGuards (1 ∷ 1 ∷ 1 ∷ 1 ∷ []) body }
+    ensures built { IfOk result (λ f. IsBuilt f) }
+    ensures guards { IfOk result (λ f. HasGuards (1 ∷ 1 ∷ 1 ∷ 1 ∷ []) f) }
 {
-    Ok(Base::OrBool(signal(place), Subbase::new(alloc, body)?))
+    Subbase::new(alloc, Base::OrBool(signal(place), body))
 }
 
-fn and(alloc: Global, left: Base, right: Base) -> Result<Base, AllocError>
-    requires left_built { IsBuilt (base_of left) }
-    requires left_guards { HasGuards (1 ∷ 1 ∷ 1 ∷ 1 ∷ []) (base_of left) }
-    requires right_built { IsBuilt (base_of right) }
-    requires right_guards { HasGuards (1 ∷ 1 ∷ 1 ∷ 1 ∷ []) (base_of right) }
-    ensures built { IfOk result (λ f. IsBuilt (base_of f)) }
-    ensures guards { IfOk result (λ f. HasGuards (1 ∷ 1 ∷ 1 ∷ 1 ∷ []) (base_of f)) }
+fn and(alloc: Global, left: Subbase, right: Subbase) -> Result<Subbase, AllocError>
+    requires left_built { IsBuilt left }
+    requires left_guards { HasGuards (1 ∷ 1 ∷ 1 ∷ 1 ∷ []) left }
+    requires right_built { IsBuilt right }
+    requires right_guards { HasGuards (1 ∷ 1 ∷ 1 ∷ 1 ∷ []) right }
+    ensures built { IfOk result (λ f. IsBuilt f) }
+    ensures guards { IfOk result (λ f. HasGuards (1 ∷ 1 ∷ 1 ∷ 1 ∷ []) f) }
 {
-    let left = Subbase::new(alloc, left)?;
-    let right = Subbase::new(alloc, right)?;
-    Ok(Base::And(left, right))
+    Subbase::new(alloc, Base::And(left, right))
 }
 
 fn is_on(nets: &[bool], net: Net) -> bool {
@@ -156,17 +156,17 @@ fn first_on(
 // and the clears.
 fn first_cycles(
     alloc: Global,
-    formula: &Base,
+    formula: &Subbase,
     texts: &[&str],
 ) -> Result<(Option<usize>, Option<usize>), AllocError>
-    requires built { IsBuilt (base_of formula.now) }
-    requires guards { HasGuards (1 ∷ 1 ∷ 1 ∷ 1 ∷ []) (base_of formula.now) }
+    requires built { IsBuilt formula.now }
+    requires guards { HasGuards (1 ∷ 1 ∷ 1 ∷ 1 ∷ []) formula.now }
 {
     let widths = [1, 1, 1, 1].to_vec(alloc)?;
     let mut net = Netlist::new(alloc, widths)?;
     let start = net.guard(&signal(START))?;
     let clear = net.guard(&signal(CLEAR))?;
-    let check = check_at(&mut net, formula, start, clear)?;
+    let check = check_at(&mut net, formula.get(), start, clear)?;
     let fail = first_on(alloc, &net, check.fail, texts, usize::MAX)?;
     let pend = first_on(alloc, &net, check.pend, texts, usize::MAX)?;
     Ok((fail, pend))
@@ -175,7 +175,9 @@ fn first_cycles(
 #[test]
 fn a_formula_is_checked_from_each_start_on(rt: HostRuntime) -> Result<(), Fail> {
     let alloc = rt.alloc();
-    let f = always(alloc, implies(alloc, A, holds(B))?)?;
+    let body = holds(alloc, B)?;
+    let test = implies(alloc, A, body)?;
+    let f = always(alloc, test)?;
     // The start in cycle 1 sees cycle 4, not what stood before it.
     let seen = first_cycles(alloc, &f, &["1101111", "0101000", "0100000", "0000010"])?;
     assert_eq!(rt; seen, (Some(4), None));
@@ -194,8 +196,10 @@ fn a_formula_is_checked_from_each_start_on(rt: HostRuntime) -> Result<(), Fail> 
 #[test]
 fn an_always_inside_another_is_open_from_its_test_on(rt: HostRuntime) -> Result<(), Fail> {
     let alloc = rt.alloc();
-    let inner = always(alloc, holds(B))?;
-    let f = always(alloc, implies(alloc, A, inner)?)?;
+    let body = holds(alloc, B)?;
+    let inner = always(alloc, body)?;
+    let test = implies(alloc, A, inner)?;
+    let f = always(alloc, test)?;
     let seen = first_cycles(alloc, &f, &["0010000", "1011011", "1000000", "0000000"])?;
     assert_eq!(rt; seen, (Some(4), None));
     // A clear drops the inner one too; the outer one has to be started again.
@@ -203,8 +207,16 @@ fn an_always_inside_another_is_open_from_its_test_on(rt: HostRuntime) -> Result<
     assert_eq!(rt; seen, (None, None));
     let seen = first_cycles(alloc, &f, &["0010010", "1011010", "1000010", "0000100"])?;
     assert_eq!(rt; seen, (Some(6), None));
-    let twice = always(alloc, always(alloc, holds(B))?)?;
-    let seen = first_cycles(alloc, &twice, &["0000000", "1010111", "0010000", "0000000"])?;
+    Ok(())
+}
+
+#[test]
+fn always_twice_is_always(rt: HostRuntime) -> Result<(), Fail> {
+    let alloc = rt.alloc();
+    let body = holds(alloc, B)?;
+    let inner = always(alloc, body)?;
+    let f = always(alloc, inner)?;
+    let seen = first_cycles(alloc, &f, &["0000000", "1010111", "0010000", "0000000"])?;
     assert_eq!(rt; seen, (Some(3), None));
     Ok(())
 }
@@ -212,14 +224,22 @@ fn an_always_inside_another_is_open_from_its_test_on(rt: HostRuntime) -> Result<
 #[test]
 fn sides_fail_each_on_its_own(rt: HostRuntime) -> Result<(), Fail> {
     let alloc = rt.alloc();
-    let f = and(alloc, holds(A), always(alloc, holds(B))?)?;
+    let left = holds(alloc, A)?;
+    let body = holds(alloc, B)?;
+    let right = always(alloc, body)?;
+    let f = and(alloc, left, right)?;
     let seen = first_cycles(alloc, &f, &["1000000", "1110111", "1000000", "0000000"])?;
     assert_eq!(rt; seen, (Some(3), None));
     let seen = first_cycles(alloc, &f, &["1000000", "1111111", "1010000", "0000000"])?;
     assert_eq!(rt; seen, (Some(2), None));
-    let f = or(alloc, A, holds(B))?;
-    let seen = first_cycles(alloc, &f, &["0101", "0010", "0110", "0000"])?;
-    assert_eq!(rt; seen, (None, None));
+    Ok(())
+}
+
+#[test]
+fn an_alternative_fails_where_both_do(rt: HostRuntime) -> Result<(), Fail> {
+    let alloc = rt.alloc();
+    let body = holds(alloc, B)?;
+    let f = or(alloc, A, body)?;
     let seen = first_cycles(alloc, &f, &["0101", "0010", "0111", "0000"])?;
     assert_eq!(rt; seen, (None, None));
     let seen = first_cycles(alloc, &f, &["0100", "0010", "0111", "0000"])?;
@@ -227,52 +247,72 @@ fn sides_fail_each_on_its_own(rt: HostRuntime) -> Result<(), Fail> {
     Ok(())
 }
 
+// The first cycle in which the output of a formula's circuit is on, where execution ends in cycle 3, and the bits of
+// its registers.
+fn first_output(
+    alloc: Global,
+    formula: &Subbase,
+    texts: &[&str],
+) -> Result<(Option<usize>, u128), Fail>
+    requires built { IsBuilt formula.now }
+    requires guards { HasGuards (1 ∷ 1 ∷ 1 ∷ 1 ∷ []) formula.now }
+{
+    let widths: [u32; 4] = [1, 1, 1, 1];
+    let circuit = check_circuit(alloc, formula.get(), &widths, 0)
+        .ok()
+        .ok_or("a circuit")?;
+    let out = circuit.netlist.output().ok_or("an output")?;
+    let first = first_on(alloc, &circuit.netlist, out, texts, 3)?;
+    Ok((first, circuit.netlist.register_bits()))
+}
+
 #[test]
 fn a_circuit_is_started_in_the_first_cycle(rt: HostRuntime) -> Result<(), Fail> {
     let alloc = rt.alloc();
-    let widths: [u32; 4] = [1, 1, 1, 1];
-    let once = check_circuit(alloc, &holds(A), &widths, 0).ok().ok_or("a circuit")?;
-    assert_eq!(rt; once.steps, 0);
-    let out = once.netlist.output().ok_or("an output")?;
-    let texts = ["1000", "0000", "0000", "0000"];
-    assert_eq!(rt; first_on(alloc, &once.netlist, out, &texts, 3)?, None);
-    let texts = ["0111", "0000", "0000", "0000"];
-    assert_eq!(rt; first_on(alloc, &once.netlist, out, &texts, 3)?, Some(0));
-    let f = always(alloc, holds(A))?;
-    let each = check_circuit(alloc, &f, &widths, 0).ok().ok_or("a circuit")?;
-    assert_eq!(rt; each.netlist.register_bits(), 2);
-    let out = each.netlist.output().ok_or("an output")?;
-    let texts = ["1101", "0000", "0000", "0000"];
-    assert_eq!(rt; first_on(alloc, &each.netlist, out, &texts, 3)?, Some(2));
+    let once = holds(alloc, A)?;
+    let seen = first_output(alloc, &once, &["1000", "0000", "0000", "0000"])?;
+    assert_eq!(rt; seen, (None, 1));
+    let seen = first_output(alloc, &once, &["0111", "0000", "0000", "0000"])?;
+    assert_eq!(rt; seen, (Some(0), 1));
+    let each = always(alloc, once)?;
+    let seen = first_output(alloc, &each, &["1101", "0000", "0000", "0000"])?;
+    assert_eq!(rt; seen, (Some(2), 2));
     Ok(())
 }
 
-// 2 to the power of `depth` times `always a`, joined by `&&`, and once `last`.
-fn many(alloc: Global, depth: u32, last: Base) -> Result<Base, AllocError>
-    requires built { IsBuilt (base_of last) }
-    requires guards { HasGuards (1 ∷ 1 ∷ 1 ∷ 1 ∷ []) (base_of last) }
-    ensures built { IfOk result (λ f. IsBuilt (base_of f)) }
-    ensures guards { IfOk result (λ f. HasGuards (1 ∷ 1 ∷ 1 ∷ 1 ∷ []) (base_of f)) }
+// 2 to the power of `depth` formulas joined by `&&`: `always a`, and once `last`.
+fn many(alloc: Global, depth: u32, last: Subbase) -> Result<Subbase, AllocError>
+    requires built { IsBuilt last }
+    requires guards { HasGuards (1 ∷ 1 ∷ 1 ∷ 1 ∷ []) last }
+    ensures built { IfOk result (λ f. IsBuilt f) }
+    ensures guards { IfOk result (λ f. HasGuards (1 ∷ 1 ∷ 1 ∷ 1 ∷ []) f) }
 {
     if depth == 0 {
-        Ok(last)
-    } else {
-        let other = always(alloc, holds(A))?;
-        let left = many(alloc, depth - 1, other)?;
-        let right = many(alloc, depth - 1, last)?;
-        and(alloc, left, right)
+        return Ok(last);
     }
+    let body = holds(alloc, A)?;
+    let other = always(alloc, body)?;
+    let left = many(alloc, depth - 1, other)?;
+    let right = many(alloc, depth - 1, last)?;
+    and(alloc, left, right)
 }
 
 #[test]
 fn the_limit_of_registers_is_exact(rt: HostRuntime) -> Result<(), Fail> {
     let alloc = rt.alloc();
     let widths: [u32; 4] = [1, 1, 1, 1];
-    let f = many(alloc, 16, always(alloc, holds(B))?)?;
-    let refused = check_circuit(alloc, &f, &widths, 0).err().ok_or("a refusal")?;
+    let body = holds(alloc, B)?;
+    let last = always(alloc, body)?;
+    let f = many(alloc, 16, last)?;
+    let refused = check_circuit(alloc, f.get(), &widths, 0)
+        .err()
+        .ok_or("a refusal")?;
     assert_eq!(rt; refused, CircuitError::TooManyRegisters { count: 65_537 });
-    let f = many(alloc, 16, holds(B))?;
-    let taken = check_circuit(alloc, &f, &widths, 0).ok().ok_or("a circuit")?;
+    let last = holds(alloc, B)?;
+    let f = many(alloc, 16, last)?;
+    let taken = check_circuit(alloc, f.get(), &widths, 0)
+        .ok()
+        .ok_or("a circuit")?;
     assert_eq!(rt; taken.netlist.register_bits(), 65_536);
     Ok(())
 }

@@ -59,15 +59,15 @@ module _ (laws : Laws) (widths : List ℕ) where
   or_lasts f g p q = (
     or_closes laws.bar_of_bar widths f g (with_tops []) (λ none. none.0 p.0),
     λ xs some s. or_closes laws.bar_of_bar widths f g (with_tops xs) (λ none.
-      or_opens laws.bar_of_bar widths f g (finite xs) s
-      ((λ t. none.0 (p.1 xs some t)), (λ t. none.1 (q.1 xs some t)))),
+        or_opens laws.bar_of_bar widths f g (finite xs) s
+        ((λ t. none.0 (p.1 xs some t)), (λ t. none.1 (q.1 xs some t)))),
   )
 
   pub everywhere_lasts : (f : CoreFormula) → Lasting f → Lasting (everywhere f)
   everywhere_lasts f p = (
     (laws.each_place widths f (with_tops [])).1 (λ k there no_tops refuted. refuted (at_tops f p.0 k)),
     λ xs some s. (laws.each_place widths f (with_tops xs)).1 (λ k there no_tops refuted.
-      split xs s k no_tops refuted (cases_lt k (length xs))),
+        split xs s k no_tops refuted (cases_lt k (length xs))),
   )
     where
       split : (xs : List Letter) → Satisfies widths (everywhere f) (finite xs) → (k : ℕ) →
@@ -86,8 +86,10 @@ module _ (laws : Laws) (widths : List ℕ) where
   weak_next_opens : (f : CoreFormula) (w : Word) → Satisfies widths (weak_next f) w → Reaches w 1 →
       ¬ ¬ Satisfies widths f (from 1 w)
   weak_next_opens f w s there refuted =
-      s (reaches_to_bar w 1 there,
-      λ t. refuted (subst (λ (v : Word). Satisfies widths f v) (bar_from_bar laws.bar_of_bar 1 w) t))
+      s (
+        reaches_to_bar w 1 there,
+        λ t. refuted (subst (λ (v : Word). Satisfies widths f v) (bar_from_bar laws.bar_of_bar 1 w) t),
+      )
 
   weak_next_closes : (f : CoreFormula) (w : Word) → (Reaches w 1 → ¬ ¬ Satisfies widths f (from 1 w)) →
       Satisfies widths (weak_next f) w
@@ -110,8 +112,12 @@ module _ (laws : Laws) (widths : List ℕ) where
   pub strong_until_lasts : (f g : CoreFormula) → Lasting f → Lasting g → Lasting (strong_until f g)
   strong_until_lasts f g p q = (
     (0, laws.never_ends [] 0, q.0, λ j below. absurd (omega (arith, below))),
-    λ xs some s. (s.0, laws.never_ends xs s.0, at_suffix g q xs s.0 (λ b. s.2),
-      λ j below. at_suffix f p xs j (λ b. s.3 j below)),
+    λ xs some s. (
+      s.0,
+      laws.never_ends xs s.0,
+      at_suffix g q xs s.0 (λ b. s.2),
+      λ j below. at_suffix f p xs j (λ b. s.3 j below),
+    ),
   )
 
   pub until_lasts : (s : Bool) (f g : CoreFormula) → Lasting f → Lasting g → Lasting (until_by s f g)
@@ -154,8 +160,11 @@ module _ (laws : Laws) (widths : List ℕ) where
   pub strong_lasts : (r : CoreSere) → (n : ℕ) × Tight widths r (replicate (suc n) top) → Lasting (strong r)
   strong_lasts r (n, s) = (
     (n, laws.never_ends [] n, subst (Tight widths r) (sym (first_tops (suc n))) s),
-    λ xs some t. (t.0, laws.never_ends xs t.0,
-      subst (Tight widths r) (first_within xs ended tops (suc t.0) (within xs t.0 t.1)) t.2),
+    λ xs some t. (
+      t.0,
+      laws.never_ends xs t.0,
+      subst (Tight widths r) (first_within xs ended tops (suc t.0) (within xs t.0 t.1)) t.2,
+    ),
   )
 
   behind : (r : CoreSere) (xs : List Letter) (n : ℕ) → length xs ≤ n → SomePrefix widths r (with_tops xs) →
@@ -193,7 +202,7 @@ module _ (laws : Laws) (widths : List ℕ) where
   suffix_lasts r f p = (
     (λ j there ends. at_tops f p.0 j),
     λ xs some s j there ends. at_suffix f p xs j (λ before. s j (reached xs j before)
-      (subst (Tight widths r) (first_within (map bar_letter xs) bottoms ended (suc j) (in_bars xs j before)) ends)),
+        (subst (Tight widths r) (first_within (map bar_letter xs) bottoms ended (suc j) (in_bars xs j before)) ends)),
   )
     where
       in_bars : (xs : List Letter) (j : ℕ) → j < length xs → suc j ≤ length (map bar_letter xs)
@@ -207,6 +216,9 @@ module _ (laws : Laws) (widths : List ℕ) where
 
       grows : Grows (abort f on)
       grows xs some (inl s) = inl (p.1 xs some s)
-      grows xs some (inr (j, here, s)) = inr (j, more_of widths on (slice_get xs j) here,
+      grows xs some (inr (j, here, s)) = inr (
+        j,
+        more_of widths on (slice_get xs j) here,
         subst (λ (l : List Letter). Satisfies widths f (with_tops l))
-        (first_within xs ended tops j (less xs j (within xs j (some_of widths on (slice_get xs j) here)))) s)
+            (first_within xs ended tops j (less xs j (within xs j (some_of widths on (slice_get xs j) here)))) s,
+      )

@@ -41,8 +41,10 @@ refutes_and widths f g w = (
 pub refutes_or : BarOfBar → (widths : List ℕ) (f g : CoreFormula) (w : Word) →
     Refutes widths (or f g) w ↔ (Refutes widths f w × Refutes widths g w)
 refutes_or twice widths f g w = (
-  (λ r. ((λ s. r (or_closes twice widths f g w (λ none. none.0 s))),
-    (λ s. r (or_closes twice widths f g w (λ none. none.1 s))))),
+  (λ r. (
+    (λ s. r (or_closes twice widths f g w (λ none. none.0 s))),
+    (λ s. r (or_closes twice widths f g w (λ none. none.1 s))),
+  )),
   (λ both s. or_opens twice widths f g w s both),
 )
 

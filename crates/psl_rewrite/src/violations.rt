@@ -12,8 +12,9 @@ ghost use Rattle.psl_rewrite.specs.Base.{Base};
 ghost use Rattle.psl_rewrite.specs.Meaning.{named};
 ghost use Rattle.psl_rewrite.specs.Obligations.{EachObligation, CanHappen, IsContradictory};
 
-use psl_meaning::laws::{bar_of_bar_is_the_word, everywhere_is_each_place, letters_alone_decide};
-use psl_meaning::laws::tops_follow_the_trace;
+use psl_meaning::laws::{
+    bar_of_bar_is_the_word, everywhere_is_each_place, letters_alone_decide, tops_follow_the_trace,
+};
 
 /// Tops for ever satisfy each base formula whose obligations can happen, and don't violate one that has no
 /// contradictory obligation.

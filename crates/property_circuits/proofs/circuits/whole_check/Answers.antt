@@ -26,28 +26,28 @@ returns-clause-checks c =
     let same : m1.widths ≡ widths = c.in_ok-start.ensures.kept.widths ∙ ap (λ m. m.widths) c.in_ok-net.ensures in
     let persists : Persists widths f = c.weak_violation_persists.ensures widths (named f) in
     let full : WeakIsFull widths f = λ trace some.
-      c.a_weak_violation_is_a_violation.ensures widths f trace
-      (built_obliges (λ r. ¬ IsContradictory widths r) f c.requires.built) some in
+    c.a_weak_violation_is_a_violation.ensures widths f trace
+    (built_obliges (λ r. ¬ IsContradictory widths r) f c.requires.built) some in
     let whole : (inputs : Inputs) (run : Run) → IsRunOf m4 inputs run →
-      Whole widths inputs.trace f inputs.eot (run start) (run never) (run fail) (run pend) (run out) =
+    Whole widths inputs.trace f inputs.eot (run start) (run never) (run fail) (run pend) (run out) =
     λ inputs run r4.
-      let r3 = c.finish.ensures.runs inputs run r4 in
-      let r2 = c.in_ok-out.ensures.kept.runs inputs run r3 in
-      let r1 = c.in_ok-check.ensures.kept.runs inputs run r2 in
-      let P : List ℕ → Type 0 = λ ws. IsCheck ws inputs.trace f (run start) (run never) (run fail) (run pend) in
-      record {
-        check = subst P same (c.in_ok-check.ensures.check inputs run r2);
-        starts = c.in_ok-start.ensures.first inputs run r1;
-        never = c.in_ok-start.ensures.never inputs run r1;
-        outs = c.in_ok-out.ensures.stream inputs run r3;
-      } in
+    let r3 = c.finish.ensures.runs inputs run r4 in
+    let r2 = c.in_ok-out.ensures.kept.runs inputs run r3 in
+    let r1 = c.in_ok-check.ensures.kept.runs inputs run r2 in
+    let P : List ℕ → Type 0 = λ ws. IsCheck ws inputs.trace f (run start) (run never) (run fail) (run pend) in
+    record {
+      check = subst P same (c.in_ok-check.ensures.check inputs run r2);
+      starts = c.in_ok-start.ensures.first inputs run r1;
+      never = c.in_ok-start.ensures.never inputs run r1;
+      outs = c.in_ok-out.ensures.stream inputs run r3;
+    } in
     record {
       out = out;
       is_output = ap (λ m. m.output) c.finish.ensures.output;
       rises = λ inputs run h. rises widths inputs.trace f persists full inputs.eot (run start) (run never) (run fail)
-        (run pend) (run out) (whole inputs run h);
+          (run pend) (run out) (whole inputs run h);
       ends = λ inputs run h. ends widths inputs.trace f persists full inputs.eot (run start) (run never) (run fail)
-        (run pend) (run out) (whole inputs run h);
+          (run pend) (run out) (whole inputs run h);
     }
 
 pub returns-clause-finished : goal.returns-clause-finished

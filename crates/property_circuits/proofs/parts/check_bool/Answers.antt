@@ -37,14 +37,15 @@ returns-clause-check c inputs run r6 =
     bool_check widths inputs.trace e (run c.args.start.0) (run c.args.clear.0) (run c.in_ok-fail.fail.0)
     (run c.in_ok-pend.pend.0) (law.so_far widths e) (law.whole widths e)
     (λ n v within at.
-      let test = c.in_ok-test.ensures.stream inputs run r1 n v at in
-      let missed = c.in_ok-missed.ensures.stream inputs run r2 n within in
-      let open_ = c.in_ok-open.ensures.stream inputs run r3 n within in
-      let begun = c.in_ok-begun.ensures.stream inputs run r4 n within in
-      let fail = c.in_ok-fail.ensures.stream inputs run r5 n within in
-      ((λ on.
-        let p = fail.0 on in
-        let b = begun.0 p.0 in
-        (b.0, open_.0 b.1, is_zero (own_value widths v e) (λ some. missed.0 p.1 (test.1 some)))),
-      (λ p. fail.1 (begun.1 (p.0, open_.1 p.1), missed.1 (λ on. test.0 on p.2)))))
+    let test = c.in_ok-test.ensures.stream inputs run r1 n v at in
+    let missed = c.in_ok-missed.ensures.stream inputs run r2 n within in
+    let open_ = c.in_ok-open.ensures.stream inputs run r3 n within in
+    let begun = c.in_ok-begun.ensures.stream inputs run r4 n within in
+    let fail = c.in_ok-fail.ensures.stream inputs run r5 n within in (
+      (λ on.
+          let p = fail.0 on in
+          let b = begun.0 p.0 in
+          (b.0, open_.0 b.1, is_zero (own_value widths v e) (λ some. missed.0 p.1 (test.1 some)))),
+      (λ p. fail.1 (begun.1 (p.0, open_.1 p.1), missed.1 (λ on. test.0 on p.2))),
+    ))
     (λ n within on. on (c.in_ok-pend.ensures.stream inputs run r6 n within))

@@ -32,8 +32,8 @@ returns-clause-grows c =
     let one : m4.registers ≡ m0.registers ++ opened 1 0 ∷ [] = same ∙ c.in_ok-register.ensures.registers in
     let there : slice_get m4.registers r ≡ Some (opened 1 0) =
     ap (λ rs. slice_get rs r) same ∙ c.in_ok-register.ensures.register in
-    grows_set m0 m4 c.set_next.new.self r 1 0 c.in_ok-live.live.0 (returns-clause-kept c) c.in_ok-register.ensures.number
-    one there c.set_next.ensures
+    grows_set m0 m4 c.set_next.new.self r 1 0 c.in_ok-live.live.0 (returns-clause-kept c)
+    c.in_ok-register.ensures.number one there c.set_next.ensures
 
 pub returns-clause-check : goal.returns-clause-check
 returns-clause-check c inputs run r5 widths f fail pend built body =
@@ -52,16 +52,16 @@ returns-clause-check c inputs run r5 widths f fail pend built body =
     (built_obliges (λ r. ¬ IsContradictory widths r) f built) in
     always_check widths inputs.trace f start (run live) clear fail pend
     (λ ls.
-      let law = so_far widths (named f) ls in
-      ((λ h k below. law.0 h k (omega arith)), (λ each. law.1 (λ k below. each k (omega arith)))))
+    let law = so_far widths (named f) ls in
+    ((λ h k below. law.0 h k (omega arith)), (λ each. law.1 (λ k below. each k (omega arith)))))
     nothing
     (c.always_is_its_body_at_each_place.ensures widths (named f))
     (open_starts (length inputs.trace) start clear (run held) (run live)
-      (λ some on. on (c.in_ok-register.ensures.begins inputs run r1 some))
-      (c.set_next.ensures.follows held of inputs run r5)
-      (λ n within.
-        let both = c.in_ok-live.ensures.stream inputs run r4 n within in
-        let begun = c.in_ok-begun.ensures.stream inputs run r2 n within in
-        let kept = c.in_ok-kept.ensures.stream inputs run r3 n within in
-        ((λ on. let p = both.0 on in (begun.0 p.0, kept.0 p.1)), (λ p. both.1 (begun.1 p.0, kept.1 p.1)))))
+    (λ some on. on (c.in_ok-register.ensures.begins inputs run r1 some))
+    (c.set_next.ensures.follows held of inputs run r5)
+    (λ n within.
+    let both = c.in_ok-live.ensures.stream inputs run r4 n within in
+    let begun = c.in_ok-begun.ensures.stream inputs run r2 n within in
+    let kept = c.in_ok-kept.ensures.stream inputs run r3 n within in
+    ((λ on. let p = both.0 on in (begun.0 p.0, kept.0 p.1)), (λ p. both.1 (begun.1 p.0, kept.1 p.1)))))
     body

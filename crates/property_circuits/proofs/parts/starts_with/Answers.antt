@@ -14,8 +14,8 @@ returns-clause-check c inputs run h f clear fail pend body =
     narrowed_check widths inputs.trace (λ v. own_value widths v e ≢ 0) (base.implies e f) f (run c.args.start.0)
     (run c.in_ok-begun.begun.0) clear fail pend (law.so_far widths e f) (law.whole widths e f)
     (λ n v at.
-      let within = slice_get_within inputs.trace n v at in
-      let test = c.in_ok-test.ensures.stream inputs run (c.in_ok-begun.ensures.kept.runs inputs run h) n v at in
-      let both = c.in_ok-begun.ensures.stream inputs run h n within in
-      ((λ on. let p = both.0 on in (p.0, test.0 p.1)), (λ p. both.1 (p.0, test.1 p.1))))
+    let within = slice_get_within inputs.trace n v at in
+    let test = c.in_ok-test.ensures.stream inputs run (c.in_ok-begun.ensures.kept.runs inputs run h) n v at in
+    let both = c.in_ok-begun.ensures.stream inputs run h n within in
+    ((λ on. let p = both.0 on in (p.0, test.0 p.1)), (λ p. both.1 (p.0, test.1 p.1))))
     body
