@@ -4,6 +4,7 @@
 mod base;
 mod core_sequences;
 pub mod laws;
+pub mod violations;
 
 pub use base::{Base, Subbase};
 pub use core_sequences::{CoreSere, Subcore};
