@@ -23,7 +23,7 @@ all_widths a b c d e ps rs none one two three four =
 
 pub returns-clause-widths : goal.returns-clause-widths
 returns-clause-widths c =
-    let m = module_of c.args.module.now in
+    let m = module_of c.args.checker.now in
     let ps = c.as_slice.result.now in
     let rs = c.as_slice-2.result.now in
     let d = c.put_ports.new.widths.items in
