@@ -1,13 +1,12 @@
-use Rattle.std.proofs.Common.{◌≡◌, ℕ, ◌+◌, ◌<◌, ◌≤◌, List, [], ◌∷◌, ◌++◌, length, map, take, arith, sym, subst, ap}
-use Rattle.std.proofs.Common.{◌∙◌, refl}
-use Rattle.std.proofs.lemmas.List.{take_all}
-use Rattle.std.specs.Prelude.{All, IfOk, Ok}
+use Rattle.std.proofs.Common.{◌≤◌, ◌++◌, length, map, take, sym, subst, ap}
+use Rattle.std.proofs.Common.{◌∙◌}
+use Rattle.std.specs.Prelude.{All}
 use Rattle.psl_model.specs.Limits.{vector_limit}
 use Rattle.psl_model.specs.Valid.{IsValid}
 use Rattle.psl_model.specs.View.{expr_of}
-use Rattle.verilog_text.specs.Module.{Wire, state_widths}
+use Rattle.verilog_text.specs.Module.{Wire}
 use Rattle.verilog_text.specs.View.{module_of, wire_of}
-use Rattle.verilog_cycles.specs.inner.Ready.{IsLine, AreWires}
+use Rattle.verilog_cycles.specs.inner.Ready.{IsLine}
 use Rattle.verilog_cycles.proofs.Names.{wires_none}
 use Rattle.verilog_cycles.proofs.Declared.{wire_valid, widths_narrow, wire_width, wire_more}
 use Rattle.verilog_cycles.proofs.program.put_wires.Goals as goal

@@ -1,4 +1,4 @@
-use Rattle.std.proofs.Common.{◌≡◌, ℕ, List, length, map, ap, ◌∙◌, sym, subst, rules}
+use Rattle.std.proofs.Common.{◌≡◌, ℕ, List, length, sym, subst, rules}
 use Rattle.psl_model.specs.Value.{FitWidths}
 use Rattle.verilog_text.specs.View.{module_of}
 use Rattle.verilog_cycles.specs.Steps.{register_widths}

@@ -1,11 +1,9 @@
-use Rattle.std.proofs.Common.{◌≡◌, ℕ, ◌+◌, List, length, map, arith, ap, ◌∙◌, sym, subst, refl}
+use Rattle.std.proofs.Common.{length, arith, ap, ◌∙◌, sym, subst}
 use Rattle.std.proofs.lemmas.List.{with_items_is}
-use Rattle.std.specs.Prelude.{slice_index, ◌==◌}
 use Rattle.psl_model.specs.Value.{FitWidths}
 use Rattle.verilog_text.specs.View.{module_of}
 use Rattle.verilog_cycles.specs.State.{State}
 use Rattle.verilog_cycles.specs.Steps.{port_widths, register_widths, IsStep}
-use Rattle.verilog_cycles.specs.inner.Nodes.{Meets}
 use Rattle.verilog_cycles.specs.inner.Ready.{Begins}
 use Rattle.verilog_cycles.proofs.Narrow.{ports_small}
 use Rattle.verilog_cycles.proofs.Step.{state_of, step_is}

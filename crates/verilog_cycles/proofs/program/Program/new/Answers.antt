@@ -1,8 +1,7 @@
-use Rattle.std.proofs.Common.{◌≡◌, ℕ, ◌+◌, ◌<◌, ◌≤◌, List, [], ◌∷◌, ◌++◌, length, map, arith, sym, subst, ap, ◌∙◌}
-use Rattle.std.proofs.Common.{refl, rules}
+use Rattle.std.proofs.Common.{◌≡◌, ◌<◌, ◌≤◌, ◌++◌, length, map, arith, sym, subst, ap, ◌∙◌}
+use Rattle.std.proofs.Common.{rules}
 use Rattle.std.specs.Prelude.{All}
 use Rattle.psl_model.specs.Limits.{vector_limit}
-use Rattle.psl_model.specs.View.{expr_of}
 use Rattle.verilog_text.specs.Module.{Wire, state_widths, widths_of}
 use Rattle.verilog_text.specs.View.{module_of}
 use Rattle.verilog_cycles.specs.inner.Ready.{IsLine, AreFront, AreWires, AreNexts}
