@@ -1,75 +1,83 @@
 #!/usr/bin/env bash
-# Measures a step of the cycle machine on a chain of wires: nanoseconds a node and cycle, the best of 40 batches.
-# The program is made in a temporary copy of the repository and compiled with run-time checks, without proof.
+# Measures what a step of the cycle machine costs, in picoseconds a node and cycle: the best of 40 batches.
+# The measurement is proved, built and run as a test in a temporary copy of the repository, and that test fails on
+# purpose, since a failure shows its number.
 set -euo pipefail
 top=$(cd "$(dirname "$0")/.." && pwd)
 room=$(mktemp -d)
 trap 'rm -rf "$room"' EXIT
-git -C "$top" archive HEAD | tar -x -C "$room"
-mkdir -p "$room/crates/cycle_bench/src"
-echo 'cycle_bench: psl_model verilog_text verilog_cycles sqlite_items anyhow' >> "$room/crates.txt"
-cat > "$room/crates/cycle_bench/src/main.rt" <<'RATTLE'
-//! Steps over a chain of wires: a negation, then a conjunction of the two wires before it, and so on.
-#![tactic(auto)]
+cp -r "$top/." "$room"
+cd "$room/crates/verilog_cycles"
+rm -rf must-fail
+sed -i 's/^mod arithmetic;/mod arithmetic;\n#[cfg(test)]\nmod bench;/' src/lib.rt
+mkdir -p proofs/bench/chain
+cat > proofs/bench/chain/Invariants.antt <<'ANTT'
+use Rattle.verilog_cycles.specs.inner.Nodes.{IsTape}
+use Rattle.verilog_cycles.proofs.bench.chain.Given as goal
 
-use psl_model::{BinOp, Expr, Name, Signal, Subexpr, UnOp};
-use sqlite_items::Items;
+abbrev pub invariant-loop : goal.invariant-loop
+invariant-loop l = IsTape l.nodes.items
+ANTT
+cat > src/bench.rt <<'RATTLE'
+//! A measurement.
+
+ghost use Rattle.std.specs.Prelude.{◌≡◌, ◌+◌, ◌<◌, ◌^◌, IfOk, length};
+ghost use Rattle.verilog_cycles.specs.inner.Nodes.{IsTape};
+
+use crate::nodes::{Node, evaluate};
+use psl_model::{BinOp, UnOp};
 use std::alloc::{AllocError, Global};
+use std::test::Fail;
 use std::time::Instant;
-use verilog_cycles::Machine;
-use verilog_text::{Module, RegDecl, WireDecl};
 
-const WIRES: usize = 4_000;
-const BATCHES: usize = 40;
-const CYCLES: usize = 500;
-
-fn wire(alloc: Global, place: usize) -> Result<WireDecl, AllocError> {
-    let before = Subexpr::new(alloc, Expr::Whole(place - 1))?;
-    let value = if place % 2 == 0 {
-        Expr::Unary(UnOp::Not, before)
+fn add(nodes: &mut Vec<Node>) -> Result<(), AllocError>
+    requires { IsTape nodes.old.items }
+    ensures tape { IfOk result (λ _. IsTape nodes.new.items) }
+{
+    let at = nodes.len();
+    let node = if at < 2 {
+        Node::Number(0)
+    } else if at % 2 == 0 {
+        Node::Unary(UnOp::Not, 1, at - 1)
     } else {
-        let earlier = Subexpr::new(alloc, Expr::Whole(place - 2))?;
-        Expr::Binary(BinOp::And, before, earlier)
+        Node::Binary(BinOp::And, 1, at - 1, at - 2)
     };
-    Ok(WireDecl { width: 1, value })
+    nodes.push(node)?;
+    Ok(())
 }
 
-// The names are `mbac_rst`, `mbac_eot`, `a` and a register, and then the wires.
-fn chain(alloc: Global) -> Result<Module, AllocError> {
-    let mut wires = Vec::new(alloc);
-    for at in 0..WIRES {
-        wires.push(wire(alloc, 4 + at)?)?;
+fn chain(alloc: Global, count: usize) -> Result<Vec<Node>, AllocError>
+    ensures { IfOk result (λ nodes. IsTape nodes.items) }
+{
+    let mut nodes = Vec::new(alloc);
+    for _ in 0..count {
+        add(&mut nodes)?;
     }
-    let port = Signal { name: Name::new(alloc, b"a")?, width: 1 };
-    let reg = RegDecl { width: 1, init: 0, next: Expr::Whole(2) };
-    Ok(Module {
-        name: Name::new(alloc, b"mbac_chain")?,
-        report: None,
-        ports: Items::from_vec(vec![in alloc; port]?),
-        regs: Items::from_vec(vec![in alloc; reg]?),
-        wires: Items::from_vec(wires),
-        fail: Expr::Whole(WIRES + 3),
-    })
+    Ok(nodes)
 }
 
-fn main(rt: HostRuntime) -> Result<(), anyhow::Error> {
-    let mut machine = Machine::load(rt.alloc(), chain(rt.alloc())?)?;
-    machine.reset();
+fn spin(nodes: &[Node], table: &mut [u64], cycles: usize)
+    requires size { length table.old ≡ length nodes.now }
+    requires tape { IsTape nodes.now }
+{
+    for _ in 0..cycles {
+        evaluate(nodes, 2, table);
+    }
+}
+
+#[test]
+fn measure(rt: HostRuntime) -> Result<(), Fail> {
+    let nodes = chain(rt.alloc(), 4002)?;
+    let mut table: Vec<u64> = vec![in rt.alloc(); 0; nodes.len()]?;
     let mut best = u128::MAX;
-    let mut ones = 0u64;
-    for _ in 0..BATCHES {
+    for _ in 0..40 {
         let start = Instant::now(&rt)?;
-        for cycle in 0..CYCLES {
-            if machine.step(&[(cycle % 2) as u128], false) {
-                ones += 1;
-            }
-        }
+        spin(&nodes, &mut table, 500);
         best = best.min(start.elapsed(&rt)?.as_nanos());
     }
-    let picoseconds = best * 1_000 / (WIRES * CYCLES) as u128;
-    println!(rt; "{} wires, {} cycles a batch: {} ps a wire and cycle ({} ones)", WIRES, CYCLES, picoseconds, ones)?;
+    let picoseconds = best / 2000;
+    assert_eq!(rt; picoseconds, 0);
     Ok(())
 }
 RATTLE
-cd "$room/crates/cycle_bench"
-rt try --seconds 60
+rt test 2>&1 | sed -n 's/^ *left: \([0-9]*\)$/\1 ps a node and cycle/p'

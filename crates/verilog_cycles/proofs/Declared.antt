@@ -1,19 +1,19 @@
 -- The wires and registers as the code declares them, one after the other.
 use Rattle.std.proofs.Common.{◌≡◌, ℕ, zero, suc, ◌+◌, ◌<◌, ◌≤◌, List, [], ◌∷◌, ◌++◌, map, take, length, refl, ap, sym}
 use Rattle.std.proofs.Common.{◌∙◌, arith, subst, Some, get_or}
-use Rattle.std.proofs.lemmas.List.{map-append, length-map}
+use Rattle.std.proofs.lemmas.List.{map-append}
 use Rattle.std.specs.Prelude.{slice_get, All}
 use Rattle.psl_model.specs.Limits.{vector_limit}
 use Rattle.psl_model.specs.Valid.{IsValid}
 use Rattle.psl_model.specs.View.{expr_of}
-use Rattle.verilog_text.specs.Module.{Module, Wire, Register, state_widths, widths_of, IsWidth, IsLawful}
+use Rattle.verilog_text.specs.Module.{Module, Wire, state_widths, widths_of, IsLawful}
 use Rattle.verilog_text.specs.View.{wire_of, register_of}
 use Rattle.verilog_text.specs.declared.module.WireDecl.{WireDecl}
 use Rattle.verilog_text.specs.declared.module.RegDecl.{RegDecl}
 use Rattle.verilog_cycles.specs.declared.nodes.Node.{Node}
 use Rattle.verilog_cycles.specs.inner.Ready.{IsLine, AreWires, AreNexts}
 use Rattle.verilog_cycles.proofs.Names.{Reads, ReadsWidth, wires_more, nexts_more}
-use Rattle.verilog_cycles.proofs.Narrow.{wire_widths, wire_at, register_at, narrow_before, all_narrow}
+use Rattle.verilog_cycles.proofs.Narrow.{wire_widths, wire_at, register_at, narrow_before}
 
 -- the item that is read is at its place
 get_mapped : {X Y : Type 0} (f : X → Y) (xs : List X) (k : ℕ) (x : X) → k < length xs → x ≡ get_or xs k x →

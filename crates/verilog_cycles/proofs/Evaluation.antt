@@ -2,12 +2,12 @@
 use Rattle.std.proofs.Common.{◌≡◌, ℕ, zero, suc, ◌+◌, ◌/◌, ◌%◌, ◌^◌, ◌<◌, ◌≤◌, List, [], ◌∷◌, length, set, cond, refl}
 use Rattle.std.proofs.Common.{ap}
 use Rattle.std.proofs.Common.{sym, ◌∙◌, arith, subst, Some, get_or, inl, inr}
-use Rattle.std.proofs.lemmas.List.{get_or-set_same, get_or-set_other, length-set}
+use Rattle.std.proofs.lemmas.List.{get_or-set_same, get_or-set_other}
 use Rattle.std.specs.Prelude.{slice_get, slice_index, slice_index_or, ◌≢◌, ◌⊎◌, ◌==◌}
 use Rattle.psl_model.specs.Value.{unary_value, binary_value}
 use Rattle.verilog_cycles.specs.declared.nodes.Node.{Node}
 use Rattle.verilog_cycles.specs.declared.nodes.Node.TheVariants.{Number, Part, Unary, Binary, Choice}
-use Rattle.verilog_cycles.specs.inner.Nodes.{node_value, IsNode, IsTape, Meets}
+use Rattle.verilog_cycles.specs.inner.Nodes.{node_value, IsNode, IsTape}
 
 -- the places so far
 abbrev pub MeetsBelow : (end first : ℕ) → List Node → (table : List ℕ) → Type 0

@@ -2,13 +2,13 @@
 use Rattle.std.proofs.Common.{◌≡◌, ℕ, zero, suc, ◌<◌, ◌≤◌, ◌^◌, List, [], ◌∷◌, refl, arith, Bool, true, false}
 use Rattle.std.specs.Prelude.{All, AllPairs, IfSome, slice_get, ◌&&◌, ◌≢◌}
 use Rattle.psl_model.specs.declared.operators.BinOp.{BinOp}
-use Rattle.psl_model.specs.declared.operators.BinOp.TheVariants.{Add, Sub, Shl, Shr, Lt, Le, Gt, Ge, Eq, Ne, BitAnd}
-use Rattle.psl_model.specs.declared.operators.BinOp.TheVariants.{BitXor, BitOr, And, Or}
+use Rattle.psl_model.specs.declared.operators.BinOp.TheVariants.{Add, Sub, Shl, Shr, BitAnd}
+use Rattle.psl_model.specs.declared.operators.BinOp.TheVariants.{BitXor, BitOr}
 use Rattle.psl_model.specs.Expr.{Expr, whole, plain, binary}
 use Rattle.psl_model.specs.Value.{width_of}
 use Rattle.psl_model.specs.Valid.{wants_width}
 use Rattle.psl_model.specs.Limits.{vector_limit}
-use Rattle.verilog_text.specs.Module.{Module, Register, Wire, state_widths, IsExpression, IsLawful, IsPort}
+use Rattle.verilog_text.specs.Module.{Register, state_widths, IsExpression, IsLawful, IsPort}
 use Rattle.verilog_text.specs.Module.{IsRegister, IsWire}
 use Rattle.verilog_cycles.specs.inner.Examples.{exchange, comparison, counter}
 

@@ -1,5 +1,5 @@
 -- What a target takes, made ready.
-use Rattle.std.proofs.Common.{◌≡◌, ℕ, ◌+◌, ◌/◌, ◌%◌, ◌^◌, ◌<◌, ◌≤◌, List, [], ◌∷◌, ◌++◌, length, ap, sym, ◌∙◌, arith}
+use Rattle.std.proofs.Common.{◌≡◌, ℕ, ◌%◌, ◌^◌, ◌<◌, ◌≤◌, List, [], ◌∷◌, ◌++◌, length, ap, sym, ◌∙◌, arith}
 use Rattle.std.proofs.Common.{subst}
 use Rattle.std.proofs.Math.Nat.{mod-eq_of_lt, div-one}
 use Rattle.std.specs.Prelude.{max, slice_index}
@@ -9,8 +9,7 @@ use Rattle.psl_model.specs.Valid.{IsValid}
 use Rattle.psl_model.specs.Value.{width_of, value_of, FitWidths}
 use Rattle.verilog_cycles.specs.declared.nodes.Node.{Node}
 use Rattle.verilog_cycles.specs.declared.nodes.Node.TheVariants.{Part}
-use Rattle.verilog_cycles.specs.inner.Nodes.{Meets}
-use Rattle.verilog_cycles.specs.inner.Ready.{values_at, taken, IsReady, IsLine}
+use Rattle.verilog_cycles.specs.inner.Ready.{values_at, IsReady, IsLine}
 use Rattle.verilog_cycles.proofs.Ready.{grows_on, grows_by, grown, meets_front, met_end, tape_on, longer}
 
 -- a value fits its context

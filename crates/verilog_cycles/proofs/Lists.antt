@@ -1,6 +1,6 @@
 -- Lists by places.
-use Rattle.std.proofs.Common.{◌≡◌, ℕ, zero, suc, ◌+◌, ◌<◌, ◌≤◌, List, [], ◌∷◌, ◌++◌, map, length, refl, ap, sym}
-use Rattle.std.proofs.Common.{◌∙◌, arith, Some, None, inl, inr, get_or}
+use Rattle.std.proofs.Common.{◌≡◌, ℕ, zero, suc, ◌<◌, List, [], ◌∷◌, ◌++◌, map, length, refl, ap}
+use Rattle.std.proofs.Common.{arith, Some, inl, inr, get_or}
 use Rattle.std.specs.Prelude.{◌⊎◌, slice_get, slice_index, All}
 
 pub get_front : {X : Type 0} (xs ys : List X) (k : ℕ) (x : X) → slice_get xs k ≡ Some x → slice_get (xs ++ ys) k ≡

@@ -1,17 +1,17 @@
 -- A machine from call to call.
-use Rattle.std.proofs.Common.{◌≡◌, ℕ, zero, suc, ◌+◌, ◌<◌, ◌≤◌, ◌%◌, ◌^◌, List, [], ◌∷◌, ◌++◌, map, length, refl, ap}
+use Rattle.std.proofs.Common.{◌≡◌, ℕ, zero, suc, ◌+◌, List, [], ◌∷◌, map, length, refl, ap}
 use Rattle.std.proofs.Common.{sym}
 use Rattle.std.proofs.Common.{◌∙◌, arith, subst, Bool}
-use Rattle.std.proofs.Math.Nat.{mod-lt, mod-eq_of_lt}
+use Rattle.std.proofs.Math.Nat.{mod-lt}
 use Rattle.std.proofs.lemmas.Nat.{pow_pos}
 use Rattle.std.proofs.lemmas.List.{length-map, length-append}
 use Rattle.std.specs.Prelude.{All, max}
 use Rattle.psl_model.specs.Value.{width_of, value_of, FitWidths}
-use Rattle.verilog_text.specs.Module.{Module, Register, state_widths, widths_of}
+use Rattle.verilog_text.specs.Module.{Module, Register, widths_of}
 use Rattle.verilog_text.specs.Run.{Cycle, values_of, assigned, right_side}
 use Rattle.verilog_text.specs.View.{register_of}
 use Rattle.verilog_text.specs.declared.module.RegDecl.{RegDecl}
-use Rattle.verilog_cycles.specs.Steps.{port_widths, register_widths, reset_values, IsStep}
+use Rattle.verilog_cycles.specs.Steps.{port_widths, register_widths, IsStep}
 use Rattle.verilog_cycles.specs.declared.nodes.Node.{Node}
 use Rattle.verilog_cycles.specs.inner.Program.{IsProgram, IsLoaded}
 use Rattle.verilog_cycles.proofs.Narrow.{fit_length}

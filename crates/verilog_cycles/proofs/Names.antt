@@ -5,7 +5,7 @@ use Rattle.std.proofs.Common.{◌∙◌, arith, subst, Some, inl, inr, get_or, a
 use Rattle.std.proofs.Math.Nat.{mod-lt}
 use Rattle.std.proofs.lemmas.Nat.{pow_pos}
 use Rattle.std.proofs.lemmas.List.{map-append, length-map}
-use Rattle.std.specs.Prelude.{◌⊎◌, max, slice_get, slice_index, All}
+use Rattle.std.specs.Prelude.{◌⊎◌, max, slice_get, slice_index}
 use Rattle.psl_model.specs.Expr.{Expr}
 use Rattle.psl_model.specs.Valid.{IsValid}
 use Rattle.psl_model.specs.Value.{width_of, value_of, FitWidths}

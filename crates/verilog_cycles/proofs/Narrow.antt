@@ -1,16 +1,12 @@
 -- What a lawful module's widths are.
-use Rattle.std.proofs.Common.{◌≡◌, ℕ, zero, suc, ◌+◌, ◌<◌, ◌≤◌, ◌^◌, List, [], ◌∷◌, ◌++◌, map, take, length, refl, ap}
-use Rattle.std.proofs.Common.{sym}
+use Rattle.std.proofs.Common.{◌≡◌, ℕ, zero, suc, ◌<◌, ◌≤◌, ◌^◌, List, [], ◌∷◌, ◌++◌, map, take, length, refl, ap}
 use Rattle.std.proofs.Common.{◌∙◌, arith, subst, Some, get_or}
 use Rattle.std.proofs.Math.ListN.{replicate}
 use Rattle.std.proofs.Math.Pow.{pow_mono}
 use Rattle.std.proofs.lemmas.Nat.{pow_pos}
-use Rattle.std.proofs.lemmas.List.{get_or-take, length-append, length-map, length-take-le}
-use Rattle.std.specs.Prelude.{slice_get, slice_index, IfSome, All}
+use Rattle.std.specs.Prelude.{slice_get, IfSome, All}
 use Rattle.psl_model.specs.declared.names.Signal.{Signal}
-use Rattle.psl_model.specs.Expr.{Expr}
 use Rattle.psl_model.specs.Limits.{vector_limit}
-use Rattle.psl_model.specs.Valid.{IsValid}
 use Rattle.psl_model.specs.Value.{FitWidths}
 use Rattle.verilog_text.specs.Module.{Module, Wire, Register, state_widths, widths_of, IsWire, IsPort, IsRegister}
 use Rattle.verilog_text.specs.Module.{IsLawful}

@@ -1,13 +1,11 @@
 -- A module whose names, wires, registers and output were made ready.
-use Rattle.std.proofs.Common.{◌≡◌, ℕ, ◌+◌, ◌<◌, ◌≤◌, List, ◌++◌, length, ap, sym, ◌∙◌, arith}
-use Rattle.std.specs.Prelude.{All}
-use Rattle.psl_model.specs.Value.{FitWidths}
+use Rattle.std.proofs.Common.{◌≡◌, ℕ, List, length, sym, ◌∙◌, arith}
 use Rattle.verilog_text.specs.Module.{Module, state_widths, widths_of}
 use Rattle.verilog_cycles.specs.declared.nodes.Node.{Node}
 use Rattle.verilog_cycles.specs.inner.Ready.{IsLine, AreFront, AreWires, AreNexts}
 use Rattle.verilog_cycles.specs.inner.Program.{IsProgram}
 use Rattle.verilog_cycles.proofs.Names.{wires_grown}
-use Rattle.verilog_cycles.proofs.Ready.{grows_on, grown, meets_front, within_grown}
+use Rattle.verilog_cycles.proofs.Ready.{grows_on, meets_front, within_grown}
 
 pub program_is : (m : Module) (first : ℕ) (n0 n1 n2 n3 : List Node) (fronts ps takes : List ℕ) (fail : ℕ) →
     AreFront (state_widths m) fronts n0 → first ≡ length n0 →

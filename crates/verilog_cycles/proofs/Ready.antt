@@ -1,8 +1,8 @@
 -- Expressions that were made ready, form by form.
-use Rattle.std.proofs.Common.{◌≡◌, ℕ, zero, suc, ◌+◌, ◌-◌, ◌/◌, ◌%◌, ◌^◌, ◌<◌, ◌≤◌, List, [], ◌∷◌, ◌++◌, map, length}
-use Rattle.std.proofs.Common.{cond, refl, ap, sym, ◌∙◌, arith, subst, Some, inl, inr, append_assoc, append-nil}
+use Rattle.std.proofs.Common.{◌≡◌, ℕ, ◌+◌, ◌-◌, ◌/◌, ◌%◌, ◌^◌, ◌<◌, ◌≤◌, List, [], ◌∷◌, ◌++◌, length}
+use Rattle.std.proofs.Common.{cond, ap, sym, ◌∙◌, arith, subst, Some, inl, inr, append_assoc, append-nil}
 use Rattle.std.proofs.Common.{length-append}
-use Rattle.std.specs.Prelude.{◌⊎◌, slice_get, slice_index, All, ◌==◌, Result, Ok, Err, IfOk}
+use Rattle.std.specs.Prelude.{slice_get, slice_index, All, ◌==◌, Result, Ok, Err, IfOk}
 use Rattle.psl_model.specs.Limits.{vector_limit}
 use Rattle.psl_model.specs.declared.operators.UnOp.{UnOp}
 use Rattle.psl_model.specs.declared.operators.BinOp.{BinOp}

@@ -1,12 +1,11 @@
 -- A table that was filled is a settled cycle.
 use Rattle.std.proofs.Common.{◌≡◌, ℕ, zero, suc, ◌+◌, ◌<◌, ◌≤◌, ◌%◌, ◌^◌, List, [], ◌∷◌, ◌++◌, map, drop, length}
-use Rattle.std.proofs.Common.{cond, refl}
+use Rattle.std.proofs.Common.{refl}
 use Rattle.std.proofs.Common.{ap, sym, ◌∙◌, arith, subst, Some, Bool, true, false}
 use Rattle.std.proofs.Math.Nat.{mod-lt}
 use Rattle.std.proofs.lemmas.Nat.{pow_pos}
 use Rattle.std.proofs.lemmas.List.{ext_get_or, length-map, length-append, length-drop, get_or-drop}
 use Rattle.std.specs.Prelude.{max, slice_get, slice_index, ◌==◌}
-use Rattle.psl_model.specs.Expr.{Expr}
 use Rattle.psl_model.specs.Value.{bit_of, width_of, value_of, FitWidths}
 use Rattle.verilog_text.specs.Module.{Module, Wire, Register, state_widths, widths_of}
 use Rattle.verilog_text.specs.Run.{Cycle, values_of, assigned, right_side}

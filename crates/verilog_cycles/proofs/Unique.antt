@@ -1,7 +1,7 @@
 -- No two settled cycles have the same inputs and registers.
 use Rattle.std.proofs.Common.{◌≡◌, ℕ, zero, suc, ◌+◌, ◌<◌, ◌≤◌, ◌%◌, ◌^◌, List, [], ◌∷◌, ◌++◌, map, take, length}
 use Rattle.std.proofs.Common.{refl, ap, sym}
-use Rattle.std.proofs.Common.{◌∙◌, arith, Some, inl, inr, get_or}
+use Rattle.std.proofs.Common.{◌∙◌, arith, Some, inl, inr}
 use Rattle.std.proofs.lemmas.List.{ext_get_or, get_or-take, get_or_past, length-append, length-map, length-take-le}
 use Rattle.std.specs.Prelude.{◌⊎◌, max, slice_get, slice_index}
 use Rattle.psl_model.specs.Value.{width_of, value_of}

@@ -16,7 +16,7 @@ use verilog_text::Module;
 /// A checker module that runs cycle by cycle. Contracts see the module and the values of its registers.
 #[derive(Debug, Drop)]
 pub struct Machine {
-    module: Module,
+    checker: Module,
     program: Program,
     /// The registers, now.
     state: Vec<u64>,
@@ -35,25 +35,25 @@ impl Model for Machine {
     ghost use Rattle.verilog_text.specs.View.{module_of};
     ghost use Rattle.verilog_cycles.specs.inner.Program.{IsLoaded};
 
-    ghost view = { λ x. record { loaded = x.«module»; registers = x.state.items } };
+    ghost view = { λ x. record { loaded = x.checker; registers = x.state.items } };
 
-    ghost invariant = { λ x. IsLoaded (module_of x.«module») x.program.first x.program.nodes.items
+    ghost invariant = { λ x. IsLoaded (module_of x.checker) x.program.first x.program.nodes.items
         x.program.nexts.items x.program.fail x.state.items x.table.items };
 }
 
 impl Machine {
     /// Takes a lawful module over. All registers are 0 until the first reset. This call alone takes memory.
-    pub fn load(alloc: Global, module: Module) -> Result<Machine, AllocError>
-        requires { IsLawful (module_of «module») }
-        ensures loaded { IfOk result (λ machine. machine.loaded ≡ «module») }
+    pub fn load(alloc: Global, checker: Module) -> Result<Machine, AllocError>
+        requires { IsLawful (module_of checker) }
+        ensures loaded { IfOk result (λ machine. machine.loaded ≡ checker) }
         ensures zeroes { IfOk result (λ machine.
-            machine.registers ≡ map (λ (r : plain.Register). 0) (module_of «module»).registers) }
+            machine.registers ≡ map (λ (r : plain.Register). 0) (module_of checker).registers) }
     {
-        let program = Program::new(alloc, &module)?;
+        let program = Program::new(alloc, &checker)?;
         let table = vec![in alloc; 0; program.nodes.len()]?;
-        let state = vec![in alloc; 0; module.regs.len()]?;
+        let state = vec![in alloc; 0; checker.regs.len()]?;
         Ok(Machine {
-            module,
+            checker,
             program,
             state,
             table,
@@ -65,7 +65,7 @@ impl Machine {
         ensures module { self.new.loaded ≡ self.old.loaded }
         ensures registers { self.new.registers ≡ reset_values (module_of self.old.loaded) }
     {
-        put_initial(self.module.regs.as_slice(), &mut self.state);
+        put_initial(self.checker.regs.as_slice(), &mut self.state);
     }
 
     /// Runs one cycle without reset and gives `mbac_fail`. There is a value for each port, in their order, and `eot` is
@@ -85,6 +85,6 @@ impl Machine {
         ensures lawful { IsLawful (module_of self.now.loaded) }
         ensures registers_fit { FitWidths (register_widths (module_of self.now.loaded)) self.now.registers }
     {
-        &self.module
+        &self.checker
     }
 }

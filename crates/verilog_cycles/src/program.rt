@@ -81,7 +81,7 @@ fn put_registers(
 
 /// Adds the names of a module but the wires.
 fn put_front(
-    module: &Module,
+    checker: &Module,
     widths: &mut Vec<u32>,
     places: &mut Vec<usize>,
     nodes: &mut Vec<Node>,
@@ -90,30 +90,30 @@ fn put_front(
     requires places { places.old.items ≡ [] }
     requires nodes { nodes.old.items ≡ [] }
     ensures front { IfOk result (λ _. AreFront widths.new.items places.new.items nodes.new.items) }
-    ensures widths { IfOk result (λ _. widths.new.items ≡ state_widths (module_of module.now)) }
+    ensures widths { IfOk result (λ _. widths.new.items ≡ state_widths (module_of checker.now)) }
 {
     put_name(1, widths, places, nodes)?;
     put_name(1, widths, places, nodes)?;
-    put_ports(module.ports.as_slice(), widths, places, nodes)?;
-    put_registers(module.regs.as_slice(), widths, places, nodes)
+    put_ports(checker.ports.as_slice(), widths, places, nodes)?;
+    put_registers(checker.regs.as_slice(), widths, places, nodes)
 }
 
 /// Adds the wires of a module.
 fn put_wires(
-    module: &Module,
+    checker: &Module,
     widths: &mut Vec<u32>,
     places: &mut Vec<usize>,
     nodes: &mut Vec<Node>,
 ) -> Result<(), AllocError>
-    requires lawful { IsLawful (module_of module.now) }
-    requires widths { widths.old.items ≡ state_widths (module_of module.now) }
+    requires lawful { IsLawful (module_of checker.now) }
+    requires widths { widths.old.items ≡ state_widths (module_of checker.now) }
     requires front { AreFront widths.old.items places.old.items nodes.old.items }
     ensures { IfOk result (λ _. AreWires (length nodes.old.items) widths.old.items places.old.items
-        (module_of module.now).wires widths.new.items places.new.items nodes.new.items) }
+        (module_of checker.now).wires widths.new.items places.new.items nodes.new.items) }
 {
     a_value_fits_its_context();
     an_expression_reads_its_own_signals();
-    let wires = module.wires.as_slice();
+    let wires = checker.wires.as_slice();
     for at in 0..wires.len() {
         let wire = &wires[at];
         let place = line(widths, places, wire.width, &wire.value, nodes)?;
@@ -125,23 +125,23 @@ fn put_wires(
 
 /// Adds what the registers of a module take, and gives the places.
 fn put_nexts(
-    module: &Module,
+    checker: &Module,
     widths: &[u32],
     places: &[usize],
     nodes: &mut Vec<Node>,
     nexts: &mut Vec<usize>,
 ) -> Result<(), AllocError>
-    requires lawful { IsLawful (module_of module.now) }
-    requires widths { widths.now ≡ widths_of (module_of module.now) }
+    requires lawful { IsLawful (module_of checker.now) }
+    requires widths { widths.now ≡ widths_of (module_of checker.now) }
     requires count { length places.now ≡ length widths.now }
     requires within { All (λ p. p < length nodes.old.items) places.now }
     requires tape { IsTape nodes.old.items }
     requires none { nexts.old.items ≡ [] }
     ensures { IfOk result (λ _. (first : ℕ) → first ≤ length nodes.old.items →
-        AreNexts first widths.now places.now (module_of module.now).registers nexts.new.items
+        AreNexts first widths.now places.now (module_of checker.now).registers nexts.new.items
         nodes.old.items nodes.new.items) }
 {
-    let regs = module.regs.as_slice();
+    let regs = checker.regs.as_slice();
     for at in 0..regs.len() {
         let reg = &regs[at];
         let place = line(widths, places, reg.width, &reg.next, nodes)?;
@@ -152,20 +152,20 @@ fn put_nexts(
 
 impl Program {
     /// The nodes of a lawful module.
-    pub(crate) fn new(alloc: Global, module: &Module) -> Result<Program, AllocError>
-        requires { IsLawful (module_of module.now) }
-        ensures { IfOk result (λ program. IsProgram (module_of module.now)
+    pub(crate) fn new(alloc: Global, checker: &Module) -> Result<Program, AllocError>
+        requires { IsLawful (module_of checker.now) }
+        ensures { IfOk result (λ program. IsProgram (module_of checker.now)
             program.first program.nodes.items program.nexts.items program.fail) }
     {
         let mut widths = Vec::new(alloc);
         let mut places = Vec::new(alloc);
         let mut nodes = Vec::new(alloc);
-        put_front(module, &mut widths, &mut places, &mut nodes)?;
+        put_front(checker, &mut widths, &mut places, &mut nodes)?;
         let first = nodes.len();
-        put_wires(module, &mut widths, &mut places, &mut nodes)?;
+        put_wires(checker, &mut widths, &mut places, &mut nodes)?;
         let mut nexts = Vec::new(alloc);
-        put_nexts(module, &widths, &places, &mut nodes, &mut nexts)?;
-        let fail = line(&widths, &places, 1, &module.fail, &mut nodes)?;
+        put_nexts(checker, &widths, &places, &mut nodes, &mut nexts)?;
+        let fail = line(&widths, &places, 1, &checker.fail, &mut nodes)?;
         Ok(Program {
             first,
             nodes,

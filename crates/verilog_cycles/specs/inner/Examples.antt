@@ -1,5 +1,5 @@
 -- Modules that tests run. They have no ports.
-use Rattle.std.specs.Prelude.{ℕ, List, [], ◌∷◌, None, codes}
+use Rattle.std.specs.Prelude.{ℕ, [], ◌∷◌, None, codes}
 use Rattle.psl_model.specs.declared.operators.BinOp.{BinOp}
 use Rattle.psl_model.specs.declared.operators.BinOp.TheVariants.{Add, Eq}
 use Rattle.psl_model.specs.Expr.{whole, plain, sized, binary, choice}

@@ -1,13 +1,12 @@
 -- When a list of nodes is a module's.
 --     IsProgram m first nodes takes fail     the nodes are the module's, with the places of what the registers and the
 --                                            output take
-use Rattle.std.specs.Prelude.{◌≡◌, ℕ, ◌+◌, ◌<◌, ◌≤◌, List, ◌++◌, map, length, slice_index, slice_get, Some, All}
-use Rattle.psl_model.specs.declared.names.Signal.{Signal}
+use Rattle.std.specs.Prelude.{◌≡◌, ℕ, ◌<◌, List, length, slice_index, slice_get, Some, All}
 use Rattle.psl_model.specs.Value.{FitWidths}
-use Rattle.verilog_text.specs.Module.{Module, Wire, Register, state_widths, widths_of, IsLawful}
+use Rattle.verilog_text.specs.Module.{Module, Register, state_widths, widths_of, IsLawful}
 use Rattle.verilog_cycles.specs.Steps.{register_widths}
 use Rattle.verilog_cycles.specs.declared.nodes.Node.{Node}
-use Rattle.verilog_cycles.specs.inner.Nodes.{IsTape, Meets}
+use Rattle.verilog_cycles.specs.inner.Nodes.{Meets}
 use Rattle.verilog_cycles.specs.inner.Ready.{values_at, taken, AreWires}
 
 pub record IsProgram (m : Module) (first : ℕ) (nodes : List Node) (takes : List ℕ) (fail : ℕ) : Type 0 where

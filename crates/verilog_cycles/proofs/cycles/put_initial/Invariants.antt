@@ -1,4 +1,4 @@
-use Rattle.std.proofs.Common.{◌≡◌, ℕ, length, map, take}
+use Rattle.std.proofs.Common.{◌≡◌, length, map, take}
 use Rattle.verilog_text.specs.declared.module.RegDecl.{RegDecl}
 use Rattle.verilog_cycles.proofs.cycles.put_initial.Given as goal
 

@@ -1,14 +1,14 @@
-use Rattle.std.proofs.Common.{◌≡◌, ℕ, ◌+◌, ◌-◌, ◌<◌, ◌≤◌, ◌^◌, List, [], ◌∷◌, ◌++◌, length, arith, sym, subst, ap}
-use Rattle.std.proofs.Common.{◌∙◌, rules, refl}
-use Rattle.std.specs.Prelude.{slice_index, IfOk}
-use Rattle.psl_model.specs.Expr.{Expr, whole, bit, part, plain, sized}
+use Rattle.std.proofs.Common.{◌≡◌, ℕ, ◌+◌, ◌-◌, ◌≤◌, [], ◌∷◌, ◌++◌, length, arith, sym, subst, ap}
+use Rattle.std.proofs.Common.{rules, refl}
+use Rattle.std.specs.Prelude.{slice_index}
+use Rattle.psl_model.specs.Expr.{Expr, bit, part, plain, sized}
 use Rattle.psl_model.specs.View.{expr_of}
 use Rattle.psl_model.specs.declared.expressions.Expr.TheVariants as code
 use Rattle.psl_model.specs.Valid.{IsValid}
 use Rattle.verilog_cycles.specs.declared.nodes.Node.{Node}
 use Rattle.verilog_cycles.specs.declared.nodes.Node.TheVariants.{Number, Part, Unary, Binary, Choice}
 use Rattle.verilog_cycles.specs.inner.Ready.{IsReady}
-use Rattle.verilog_cycles.proofs.Ready.{if_both, within_grown, ready_whole, ready_bit, ready_part, ready_plain}
+use Rattle.verilog_cycles.proofs.Ready.{if_both, within_grown, ready_bit, ready_part, ready_plain}
 use Rattle.verilog_cycles.proofs.Ready.{ready_sized, case_unary, case_binary, case_choice, grows_on, grown}
 use Rattle.verilog_cycles.proofs.loading.+ready.Goals as goal
 

@@ -1,7 +1,5 @@
-use Rattle.std.proofs.Common.{◌≡◌, ℕ, ◌+◌, ◌<◌, ◌≤◌, List, [], ◌∷◌, ◌++◌, length, arith, sym, subst, ap, ◌∙◌}
-use Rattle.std.specs.Prelude.{max}
+use Rattle.std.proofs.Common.{◌≡◌, ℕ, ◌≤◌, [], ◌∷◌, ◌++◌, length, arith}
 use Rattle.psl_model.specs.View.{expr_of}
-use Rattle.psl_model.specs.Value.{width_of}
 use Rattle.verilog_cycles.specs.declared.nodes.Node.TheVariants.{Part}
 use Rattle.verilog_cycles.specs.inner.Ready.{IsLine}
 use Rattle.verilog_cycles.proofs.Ready.{if_both}

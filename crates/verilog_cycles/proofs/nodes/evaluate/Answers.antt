@@ -1,5 +1,5 @@
-use Rattle.std.proofs.Common.{◌≡◌, ℕ, ◌+◌, ◌<◌, ◌≤◌, length, arith, ◌∙◌}
-use Rattle.std.specs.Prelude.{slice_get, slice_index, slice_index_or, Some}
+use Rattle.std.proofs.Common.{length, arith, ◌∙◌}
+use Rattle.std.specs.Prelude.{slice_index_or}
 use Rattle.verilog_cycles.specs.declared.nodes.Node.TheVariants.{Number}
 use Rattle.std.proofs.lemmas.List.{length-set}
 use Rattle.verilog_cycles.proofs.Evaluation.{met_more, kept_more, node_there, node_more}

@@ -1,4 +1,4 @@
-use Rattle.std.proofs.Common.{◌≡◌, ℕ, ◌<◌, List, length, take}
+use Rattle.std.proofs.Common.{◌≡◌, ℕ, ◌<◌, length}
 use Rattle.std.specs.Prelude.{slice_index}
 use Rattle.verilog_cycles.proofs.Evaluation.{MeetsBelow}
 use Rattle.verilog_cycles.proofs.nodes.evaluate.Given as goal

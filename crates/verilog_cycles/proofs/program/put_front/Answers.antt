@@ -1,8 +1,7 @@
-use Rattle.std.proofs.Common.{◌≡◌, ℕ, ◌+◌, List, [], ◌∷◌, ◌++◌, length, map, sym, subst, ap, ◌∙◌, refl}
-use Rattle.std.specs.Prelude.{IfOk}
+use Rattle.std.proofs.Common.{◌≡◌, ℕ, List, [], ◌∷◌, ◌++◌, map, ap, ◌∙◌, refl}
 use Rattle.std.proofs.lemmas.Result.{IfOk-weaker}
 use Rattle.psl_model.specs.declared.names.Signal.{Signal}
-use Rattle.verilog_text.specs.Module.{Module, Register, state_widths}
+use Rattle.verilog_text.specs.Module.{Register, state_widths}
 use Rattle.verilog_text.specs.View.{module_of, register_of}
 use Rattle.verilog_text.specs.declared.module.RegDecl.{RegDecl}
 use Rattle.verilog_cycles.proofs.program.put_front.Goals as goal
@@ -23,7 +22,7 @@ all_widths a b c d e ps rs none one two three four =
 
 pub returns-clause-widths : goal.returns-clause-widths
 returns-clause-widths c =
-    let m = module_of c.args.module.now in
+    let m = module_of c.args.checker.now in
     let ps = c.as_slice.result.now in
     let rs = c.as_slice-2.result.now in
     let d = c.put_ports.new.widths.items in

@@ -1,5 +1,5 @@
-use Rattle.std.proofs.Common.{◌≡◌, ℕ, ◌+◌, ◌<◌, ◌≤◌, List, [], ◌∷◌, ◌++◌, length, map, take, arith, sym, subst, ap}
-use Rattle.std.proofs.Common.{◌∙◌, refl}
+use Rattle.std.proofs.Common.{◌≤◌, map, arith, sym, subst, ap}
+use Rattle.std.proofs.Common.{◌∙◌}
 use Rattle.std.proofs.lemmas.List.{take_all}
 use Rattle.std.specs.Prelude.{All}
 use Rattle.psl_model.specs.Limits.{vector_limit}
@@ -19,18 +19,18 @@ loop-at-init c first le =
 
 pub line-requires-clause-valid : goal.line-requires-clause-valid
 line-requires-clause-valid c =
-    register_valid (module_of c.args.module.now) c.requires.lawful c.as_slice-regs.result.now (ap (map register_of)
+    register_valid (module_of c.args.checker.now) c.requires.lawful c.as_slice-regs.result.now (ap (map register_of)
     c.as_slice-regs.ensures)
     c.loop-at.at c.index-regs-at.result c.loop-at-test.true c.index-regs-at.is c.args.widths.now c.requires.widths
 
 pub line-requires-clause-narrow : goal.line-requires-clause-narrow
 line-requires-clause-narrow c =
-    subst (λ ws. All (λ w. w ≤ vector_limit) ws) (sym c.requires.widths) (all_narrow (module_of c.args.module.now)
+    subst (λ ws. All (λ w. w ≤ vector_limit) ws) (sym c.requires.widths) (all_narrow (module_of c.args.checker.now)
     c.requires.lawful)
 
 pub line-requires-clause-target : goal.line-requires-clause-target
 line-requires-clause-target c =
-    register_width (module_of c.args.module.now) c.requires.lawful c.as_slice-regs.result.now (ap (map register_of)
+    register_width (module_of c.args.checker.now) c.requires.lawful c.as_slice-regs.result.now (ap (map register_of)
     c.as_slice-regs.ensures)
     c.loop-at.at c.index-regs-at.result c.loop-at-test.true c.index-regs-at.is
 

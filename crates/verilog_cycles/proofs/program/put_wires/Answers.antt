@@ -1,13 +1,12 @@
-use Rattle.std.proofs.Common.{◌≡◌, ℕ, ◌+◌, ◌<◌, ◌≤◌, List, [], ◌∷◌, ◌++◌, length, map, take, arith, sym, subst, ap}
-use Rattle.std.proofs.Common.{◌∙◌, refl}
-use Rattle.std.proofs.lemmas.List.{take_all}
-use Rattle.std.specs.Prelude.{All, IfOk, Ok}
+use Rattle.std.proofs.Common.{◌≤◌, ◌++◌, length, map, take, sym, subst, ap}
+use Rattle.std.proofs.Common.{◌∙◌}
+use Rattle.std.specs.Prelude.{All}
 use Rattle.psl_model.specs.Limits.{vector_limit}
 use Rattle.psl_model.specs.Valid.{IsValid}
 use Rattle.psl_model.specs.View.{expr_of}
-use Rattle.verilog_text.specs.Module.{Wire, state_widths}
+use Rattle.verilog_text.specs.Module.{Wire}
 use Rattle.verilog_text.specs.View.{module_of, wire_of}
-use Rattle.verilog_cycles.specs.inner.Ready.{IsLine, AreWires}
+use Rattle.verilog_cycles.specs.inner.Ready.{IsLine}
 use Rattle.verilog_cycles.proofs.Names.{wires_none}
 use Rattle.verilog_cycles.proofs.Declared.{wire_valid, widths_narrow, wire_width, wire_more}
 use Rattle.verilog_cycles.proofs.program.put_wires.Goals as goal
@@ -17,7 +16,7 @@ loop-at-init c = wires_none c.args.widths.now.items c.args.places.now.items c.ar
 
 pub line-requires-clause-valid : goal.line-requires-clause-valid
 line-requires-clause-valid c =
-    let m = module_of c.args.module.now in
+    let m = module_of c.args.checker.now in
     let ds = c.as_slice-wires.result.now in
     let d = c.index-wires-at.result in
     subst (λ ws. IsValid ws (expr_of d.value)) (sym c.deref.ensures.value)
@@ -28,7 +27,7 @@ line-requires-clause-valid c =
 
 pub line-requires-clause-narrow : goal.line-requires-clause-narrow
 line-requires-clause-narrow c =
-    let m = module_of c.args.module.now in
+    let m = module_of c.args.checker.now in
     let ds = c.as_slice-wires.result.now in
     subst (λ ws. All (λ w. w ≤ vector_limit) ws) (sym c.deref.ensures.value)
     (widths_narrow m c.requires.lawful ds (ap (map wire_of) c.as_slice-wires.ensures) c.loop-at.at
@@ -37,13 +36,13 @@ line-requires-clause-narrow c =
 
 pub line-requires-clause-target : goal.line-requires-clause-target
 line-requires-clause-target c =
-    wire_width (module_of c.args.module.now) c.requires.lawful c.as_slice-wires.result.now (ap (map wire_of)
+    wire_width (module_of c.args.checker.now) c.requires.lawful c.as_slice-wires.result.now (ap (map wire_of)
     c.as_slice-wires.ensures)
     c.loop-at.at c.index-wires-at.result c.loop-at-test.true c.index-wires-at.is
 
 pub loop-at-preserved : goal.loop-at-preserved
 loop-at-preserved c =
-    let m = module_of c.args.module.now in
+    let m = module_of c.args.checker.now in
     let first = length c.args.nodes.now.items in
     let ds = c.as_slice-wires.result.now in
     let d = c.index-wires-at.result in

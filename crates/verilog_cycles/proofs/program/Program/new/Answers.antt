@@ -1,8 +1,7 @@
-use Rattle.std.proofs.Common.{◌≡◌, ℕ, ◌+◌, ◌<◌, ◌≤◌, List, [], ◌∷◌, ◌++◌, length, map, arith, sym, subst, ap, ◌∙◌}
-use Rattle.std.proofs.Common.{refl, rules}
+use Rattle.std.proofs.Common.{◌≡◌, ◌<◌, ◌≤◌, ◌++◌, length, map, arith, sym, subst, ap, ◌∙◌}
+use Rattle.std.proofs.Common.{rules}
 use Rattle.std.specs.Prelude.{All}
 use Rattle.psl_model.specs.Limits.{vector_limit}
-use Rattle.psl_model.specs.View.{expr_of}
 use Rattle.verilog_text.specs.Module.{Wire, state_widths, widths_of}
 use Rattle.verilog_text.specs.View.{module_of}
 use Rattle.verilog_cycles.specs.inner.Ready.{IsLine, AreFront, AreWires, AreNexts}
@@ -13,7 +12,7 @@ use Rattle.verilog_cycles.proofs.program.Program.new.Goals as goal
 
 pub line-requires-clause-narrow : goal.line-requires-clause-narrow
 line-requires-clause-narrow c =
-    let m = module_of c.args.module.now in
+    let m = module_of c.args.checker.now in
     let is : c.deref-3.result.now ≡ widths_of m =
     c.deref-3.ensures.value ∙ c.in_ok-put_wires.ensures.all ∙ ap (λ ws. ws ++ map (λ (w : Wire). w.width) m.wires)
     c.in_ok-put_front.ensures.widths in
@@ -31,7 +30,7 @@ line-requires-clause-tape c = (c.in_ok-put_nexts.ensures 0 (omega arith)).tape
 
 pub returns : goal.returns
 returns c =
-    let m = module_of c.args.module.now in
+    let m = module_of c.args.checker.now in
     let n0 = c.put_front.new.nodes.items in
     let n1 = c.put_wires.new.nodes.items in
     let n2 = c.put_nexts.new.nodes.items in
