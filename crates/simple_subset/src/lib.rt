@@ -36,12 +36,27 @@ pub fn check(formula: &Formula) -> Result<(), Rule>
         | Formula::Next { body, .. }
         | Formula::Event { body, .. }
         | Formula::Abort(body, _) => check(body.get()),
-        Formula::And(left, right)
-        | Formula::Or(left, right)
-        | Formula::Implies(left, right)
-        | Formula::Iff(left, right)
-        | Formula::Until { left, right, .. }
-        | Formula::Before { left, right, .. } => {
+        Formula::And(left, right) => {
+            check(left.get())?;
+            check(right.get())
+        }
+        Formula::Or(left, right) => {
+            check(left.get())?;
+            check(right.get())
+        }
+        Formula::Implies(left, right) => {
+            check(left.get())?;
+            check(right.get())
+        }
+        Formula::Iff(left, right) => {
+            check(left.get())?;
+            check(right.get())
+        }
+        Formula::Until { left, right, .. } => {
+            check(left.get())?;
+            check(right.get())
+        }
+        Formula::Before { left, right, .. } => {
             check(left.get())?;
             check(right.get())
         }
