@@ -80,9 +80,11 @@ module _ (laws : WordLaws) (widths : List ℕ) where
   at_and a b None s = (tt, tt)
   at_and a b (Some bottom) s = (s, s)
   at_and a b (Some top) s = (tt, tt)
-  at_and a b (Some (valuation v)) s =
-      (are_left (own_value widths v a) (own_value widths v b) s, are_right (own_value widths v a)
-      (own_value widths v b) s)
+  at_and a b (Some (valuation v)) s = (
+    are_left (own_value widths v a) (own_value widths v b) s,
+    are_right (own_value widths v a)
+        (own_value widths v b) s,
+  )
 
   -- ---- words
 
@@ -167,6 +169,8 @@ module _ (laws : WordLaws) (widths : List ℕ) where
 
   pub boolean_iff : (a b : Expr) →
       Implied widths (bool (iff_expr a b)) (and (implies (bool a) (bool b)) (implies (bool b) (bool a)))
-  boolean_iff a b w some clean s =
-      (arrow_closes a b w (at_iff_left a b (letter_at w 0) (clean 0) s), arrow_closes b a w
-      (at_iff_right a b (letter_at w 0) (clean 0) s))
+  boolean_iff a b w some clean s = (
+    arrow_closes a b w (at_iff_left a b (letter_at w 0) (clean 0) s),
+    arrow_closes b a w
+        (at_iff_right a b (letter_at w 0) (clean 0) s),
+  )

@@ -67,9 +67,13 @@ module _ (laws : WordLaws) (widths : List ℕ) where
 
   pub strong_until_implied : (f g a b : CoreFormula) → Implied widths f a → Implied widths g b →
       Implied widths (strong_until f g) (strong_until a b)
-  strong_until_implied f g a b p q w some clean (k, reached, there, before) =
-      (k, reached, at_place g b q w clean k reached there, λ j below. at_place f a p w clean j
-      (reaches_below w k j (omega arith) reached) (before j below))
+  strong_until_implied f g a b p q w some clean (k, reached, there, before) = (
+    k,
+    reached,
+    at_place g b q w clean k reached there,
+    λ j below. at_place f a p w clean j
+        (reaches_below w k j (omega arith) reached) (before j below),
+  )
 
   pub until_implied : (s : Bool) (f g a b : CoreFormula) → Implied widths f a → Implied widths g b →
       Implied widths (until_by s f g) (until_by s a b)

@@ -35,6 +35,5 @@ pub boolean_is : (f : Formula) → is_boolean f ≡ true → core_formula_of f �
 boolean_is (formula.bool e) h = refl
 boolean_is f h = absurd (false≢true h)
 
-
 pub joined : (xs ys : List ℕ) → xs ≡ [] → ys ≡ [] → xs ++ ys ≡ []
 joined xs ys none also = rw none also

@@ -85,15 +85,17 @@ module _ (laws : WordLaws) (widths : List ℕ) where
 
   conjunction_same : (f a : ℕ → CoreFormula) → ((k : ℕ) → Same widths (f k) (a k)) → (low more : ℕ) →
       Same widths (conjunction f low more) (conjunction a low more)
-  conjunction_same f a p low more =
-      (conjunction_implied laws widths f a (λ k. (p k).0) low more,
-      conjunction_implied laws widths a f (λ k. (p k).1) low more)
+  conjunction_same f a p low more = (
+    conjunction_implied laws widths f a (λ k. (p k).0) low more,
+    conjunction_implied laws widths a f (λ k. (p k).1) low more,
+  )
 
   disjunction_same : (f a : ℕ → CoreFormula) → ((k : ℕ) → Same widths (f k) (a k)) → (low more : ℕ) →
       Same widths (disjunction f low more) (disjunction a low more)
-  disjunction_same f a p low more =
-      (disjunction_implied laws widths f a (λ k. (p k).0) low more,
-      disjunction_implied laws widths a f (λ k. (p k).1) low more)
+  disjunction_same f a p low more = (
+    disjunction_implied laws widths f a (λ k. (p k).0) low more,
+    disjunction_implied laws widths a f (λ k. (p k).1) low more,
+  )
 
   -- a range of one number
   one_number : (f : ℕ → CoreFormula) (low : ℕ) → f low ≡ conjunction f low (low - low)
@@ -139,9 +141,11 @@ module _ (laws : WordLaws) (widths : List ℕ) where
   kept (formula.and f g) h =
       let in_ = parts (broken_rules f) (broken_rules g) h in
       let p = kept f in_.0 in
-      let q = kept g in_.1 in
-      (and_implied laws widths (meant f) (meant g) (core_formula_of f) (core_formula_of g) p.0 q.0, and_implied laws
-      widths (core_formula_of f) (core_formula_of g) (meant f) (meant g) p.1 q.1)
+      let q = kept g in_.1 in (
+        and_implied laws widths (meant f) (meant g) (core_formula_of f) (core_formula_of g) p.0 q.0,
+        and_implied laws
+            widths (core_formula_of f) (core_formula_of g) (meant f) (meant g) p.1 q.1,
+      )
   kept (formula.or f g) h =
       let in_ = two (is_boolean f || is_boolean g) 4 (broken_rules f) (broken_rules g) h in
       or_kept f g in_.0 (kept f in_.1) (kept g in_.2)
@@ -155,14 +159,18 @@ module _ (laws : WordLaws) (widths : List ℕ) where
       (boolean_is g in_.1)
   kept (formula.seq r s) h = same_self (sequence_by s (core_of r))
   kept (formula.suffix r false f) h =
-      let p = kept f h in
-      (suffix_implied laws widths (core_of r) (meant f) (core_formula_of f) p.0, suffix_implied laws widths
-      (core_of r) (core_formula_of f) (meant f) p.1)
+      let p = kept f h in (
+        suffix_implied laws widths (core_of r) (meant f) (core_formula_of f) p.0,
+        suffix_implied laws widths
+            (core_of r) (core_formula_of f) (meant f) p.1,
+      )
   kept (formula.suffix r true f) h =
       let p = kept f h in
-      let c = core_of (sere.concat r (sere.bool always_true)) in
-      (suffix_implied laws widths c (meant f) (core_formula_of f) p.0, suffix_implied laws widths c
-      (core_formula_of f) (meant f) p.1)
+      let c = core_of (sere.concat r (sere.bool always_true)) in (
+        suffix_implied laws widths c (meant f) (core_formula_of f) p.0,
+        suffix_implied laws widths c
+            (core_formula_of f) (meant f) p.1,
+      )
   kept (formula.always f) h = everywhere_same (meant f) (core_formula_of f) (kept f h)
   kept (formula.never f) h = never_kept f (one (is_boolean f || is_plain_sequence f) 2 (broken_rules f) h).0
   kept (formula.eventually f) h = eventually_kept f (one (is_boolean f || is_plain_sequence f) 3 (broken_rules f) h).0
@@ -214,9 +222,11 @@ module _ (laws : WordLaws) (widths : List ℕ) where
       (not_same (core_formula_of g) (as_expr g) (boolean_is g are.1))
       (is_same (core_formula_of f) (as_expr f) (boolean_is f are.0))
   kept (formula.abort f on) h =
-      let p = kept f h in
-      (abort_implied laws widths (meant f) (core_formula_of f) on p.0, abort_implied laws widths (core_formula_of f)
-      (meant f) on p.1)
+      let p = kept f h in (
+        abort_implied laws widths (meant f) (core_formula_of f) on p.0,
+        abort_implied laws widths (core_formula_of f)
+            (meant f) on p.1,
+      )
 
 pub means_the_same : (laws : WordLaws) (f : Formula) → InSubset f → MeanTheSame (named (base_form_of f)) f
 means_the_same laws f simple widths w some clean =

@@ -24,8 +24,10 @@ ghost use Rattle.psl_rewrite.specs.Conditions.{IsAllowed, FormulaHas, BaseHas, F
 ghost use Rattle.psl_rewrite.specs.Conditions.{formula_sequences, base_sequences};
 
 use crate::violations;
-use psl_meaning::laws::{a_repetition_is_a_number_of_copies, bar_of_bar_is_the_word, letters_keep_their_places};
-use psl_meaning::laws::tops_follow_the_trace;
+use psl_meaning::laws::{
+    a_repetition_is_a_number_of_copies, bar_of_bar_is_the_word, letters_keep_their_places,
+    tops_follow_the_trace,
+};
 
 /// A power is so many lists of its body, one after the other.
 pub fn a_power_is_so_many_copies()

@@ -3,11 +3,10 @@
 ghost use Rattle.std.specs.Prelude.{◌≡◌, ◌+◌, ℕ, List, IfOk};
 ghost use Rattle.psl_model.specs.View.{expr_of, sere_of, formula_of};
 ghost use Rattle.simple_subset.specs.Subset.{InSubset};
-ghost use Rattle.psl_rewrite.specs.Base as tree;
 ghost use Rattle.psl_rewrite.specs.View.{base_of};
 ghost use Rattle.psl_rewrite.specs.Meaning.{named};
-ghost use Rattle.psl_rewrite.specs.BaseForm.{as_expr, not_expr, and_expr, iff_expr, or_form, suffix_sere, never_form};
-ghost use Rattle.psl_rewrite.specs.BaseForm.{eventually_form, next_form, event_form, stop_of, before_form};
+ghost use Rattle.psl_rewrite.specs.BaseForm.{as_expr, not_expr, and_expr, iff_expr, suffix_sere, never_form};
+ghost use Rattle.psl_rewrite.specs.BaseForm.{eventually_form, next_form, stop_of, before_form};
 ghost use Rattle.psl_rewrite.specs.BaseForm.{base_form_of};
 ghost use Rattle.psl_rewrite.specs.SameMeaning.{MeanTheSame};
 ghost use Rattle.psl_rewrite.specs.Conditions.{IsAllowed, FormulaHas, BaseHas, FormulaCounts, BaseCounts};
@@ -39,42 +38,95 @@ pub fn rewrite(alloc: Global, formula: &Formula) -> Result<Base, AllocError>
 }
 
 #[cycle(form)]
+#[tactic(auto, using(crate::proofs::OrForm::or_left, crate::proofs::OrForm::or_other))]
 fn form(alloc: Global, formula: &Formula) -> Result<Base, AllocError>
     ensures base_form { IfOk result (λ base. base_of base ≡ base_form_of (formula_of formula.now)) }
 {
-    Ok(match formula {
-        Formula::Bool(expr) => Base::Bool(expr.copy(alloc)?),
-        Formula::Not(body) => Base::Bool(negated(alloc, body.get())?),
-        Formula::And(left, right) => Base::And(part(alloc, left)?, part(alloc, right)?),
-        Formula::Or(left, right) => or_form(alloc, left, right)?,
-        Formula::Implies(left, right) => {
-            Base::Implies(as_expr(alloc, left.get())?, part(alloc, right)?)
+    match formula {
+        Formula::Bool(expr) => Ok(Base::Bool(expr.copy(alloc)?)),
+        Formula::Not(body) => Ok(Base::Bool(negated(alloc, body.get())?)),
+        Formula::And(left, right) => Ok(Base::And(part(alloc, left)?, part(alloc, right)?)),
+        // the Boolean comes first
+        Formula::Or(left, right) => {
+            if is_boolean(left.get()) {
+                Ok(Base::OrBool(as_expr(alloc, left.get())?, part(alloc, right)?))
+            } else {
+                Ok(Base::OrBool(as_expr(alloc, right.get())?, part(alloc, left)?))
+            }
         }
-        Formula::Iff(left, right) => Base::Bool(iff_expr(alloc, left.get(), right.get())?),
-        Formula::Seq { sere, strong } => Base::Seq {
+        Formula::Implies(left, right) => {
+            Ok(Base::Implies(as_expr(alloc, left.get())?, part(alloc, right)?))
+        }
+        Formula::Iff(left, right) => Ok(Base::Bool(iff_expr(alloc, left.get(), right.get())?)),
+        Formula::Seq { sere, strong } => Ok(Base::Seq {
             sere: sere.copy(alloc)?,
             strong: *strong,
-        },
+        }),
         Formula::Suffix { sere, later, body } => {
-            Base::Suffix(suffix_sere(alloc, *later, sere)?, part(alloc, body)?)
+            Ok(Base::Suffix(suffix_sere(alloc, *later, sere)?, part(alloc, body)?))
         }
-        Formula::Always(body) => Base::Always(part(alloc, body)?),
-        Formula::Never(body) => never_form(alloc, body.get())?,
-        Formula::Eventually(body) => eventually_form(alloc, body.get())?,
-        Formula::Next { strong, reach, low, high, body } => {
-            next_form(alloc, *strong, *reach, *low, *high, body)?
+        Formula::Always(body) => Ok(Base::Always(part(alloc, body)?)),
+        Formula::Never(body) => never_form(alloc, body.get()),
+        Formula::Eventually(body) => eventually_form(alloc, body.get()),
+        Formula::Next {
+            strong,
+            reach,
+            low,
+            high,
+            body,
+        } => { next_form(alloc, *strong, *reach, *low, *high, body) }
+        Formula::Event {
+            on,
+            strong,
+            reach,
+            low,
+            high,
+            body,
+        } => match reach {
+            Reach::One => Ok(Base::Event {
+                strong: *strong,
+                on: on.copy(alloc)?,
+                low: *low,
+                high: *low,
+                body: part(alloc, body)?,
+            }),
+            Reach::All => Ok(Base::Event {
+                strong: *strong,
+                on: on.copy(alloc)?,
+                low: *low,
+                high: *high,
+                body: part(alloc, body)?,
+            }),
+            Reach::Some => Ok(Base::EventSome {
+                strong: *strong,
+                on: on.copy(alloc)?,
+                low: *low,
+                high: *high,
+                seen: as_expr(alloc, body.get())?,
+            }),
+        },
+        Formula::Until {
+            strong,
+            overlap,
+            left,
+            right,
+        } => {
+            let stop = stop_of(alloc, *overlap, left.get(), right.get())?;
+            let body = part(alloc, left)?;
+            Ok(Base::Until {
+                strong: *strong,
+                body,
+                stop,
+            })
         }
-        Formula::Event { on, strong, reach, low, high, body } => {
-            event_form(alloc, on, *strong, *reach, *low, *high, body)?
-        }
-        Formula::Until { strong, overlap, left, right } => {
-            until_form(alloc, *strong, *overlap, left, right)?
-        }
-        Formula::Before { strong, overlap, left, right } => {
-            before_form(alloc, *strong, *overlap, left.get(), right.get())?
-        }
-        Formula::Abort(body, on) => Base::Abort(part(alloc, body)?, on.copy(alloc)?),
-    })
+        Formula::Before {
+            strong,
+            overlap,
+            left,
+            right,
+        } => { before_form(alloc, *strong, *overlap, left.get(), right.get()) }
+        Formula::Abort(body, on) => Ok(Base::Abort(part(alloc, body)?, on.copy(alloc)?)),
+    }
 }
 
 /// The base form of a part, on the heap.
@@ -83,20 +135,6 @@ fn part(alloc: Global, formula: &Subformula) -> Result<Subbase, AllocError>
     ensures { IfOk result (λ part. part ≡ base_form_of formula.now) }
 {
     Subbase::new(alloc, form(alloc, formula.get())?)
-}
-
-/// An alternative, with the Boolean first.
-#[cycle(form)]
-#[tactic(auto, using(crate::proofs::OrForm::or_left, crate::proofs::OrForm::or_other))]
-fn or_form(alloc: Global, left: &Subformula, right: &Subformula) -> Result<Base, AllocError>
-    ensures { IfOk result (λ base.
-        base_of base ≡ or_form left.now right.now (base_form_of left.now) (base_form_of right.now)) }
-{
-    if is_boolean(left.get()) {
-        Ok(Base::OrBool(as_expr(alloc, left.get())?, part(alloc, right)?))
-    } else {
-        Ok(Base::OrBool(as_expr(alloc, right.get())?, part(alloc, left)?))
-    }
 }
 
 #[cycle(form)]
@@ -130,61 +168,6 @@ fn next_form(
             seen: as_expr(alloc, body.get())?,
         },
     })
-}
-
-#[cycle(form)]
-fn event_form(
-    alloc: Global,
-    on: &Expr,
-    strong: bool,
-    reach: Reach,
-    low: u32,
-    high: u32,
-    body: &Subformula,
-) -> Result<Base, AllocError>
-    ensures { IfOk result (λ base.
-        base_of base ≡ event_form reach strong (expr_of on.now) low high body.now (base_form_of body.now)) }
-{
-    let on = on.copy(alloc)?;
-    Ok(match reach {
-        Reach::One => Base::Event {
-            strong,
-            on,
-            low,
-            high: low,
-            body: part(alloc, body)?,
-        },
-        Reach::All => Base::Event {
-            strong,
-            on,
-            low,
-            high,
-            body: part(alloc, body)?,
-        },
-        Reach::Some => Base::EventSome {
-            strong,
-            on,
-            low,
-            high,
-            seen: as_expr(alloc, body.get())?,
-        },
-    })
-}
-
-#[cycle(form)]
-fn until_form(
-    alloc: Global,
-    strong: bool,
-    overlap: bool,
-    left: &Subformula,
-    right: &Subformula,
-) -> Result<Base, AllocError>
-    ensures { IfOk result (λ base.
-        base_of base ≡ tree.until strong (base_form_of left.now) (stop_of overlap left.now right.now)) }
-{
-    let body = part(alloc, left)?;
-    let stop = stop_of(alloc, overlap, left.get(), right.get())?;
-    Ok(Base::Until { strong, body, stop })
 }
 
 /// The expression that a Boolean is.
