@@ -84,11 +84,7 @@ const PLACES: [(u8, bool); 15] = [
 fn over(alloc: Global, place: (u8, bool), inner: Formula) -> Result<Formula, AllocError> {
     let (rule, right) = place;
     let inner = Subformula::new(alloc, inner)?;
-    let other = if rule == 4 {
-        always(alloc, b())?
-    } else {
-        b()
-    };
+    let other = if rule == 4 { always(alloc, b())? } else { b() };
     let other = Subformula::new(alloc, other)?;
     let (one, two) = if right {
         (other, inner)
@@ -174,11 +170,10 @@ fn operators_take_what_they_may(rt: HostRuntime) -> Result<(), Fail> {
 #[test]
 fn never_and_eventually_take_sequences_without_a_mark(rt: HostRuntime) -> Result<(), Fail> {
     let alloc = rt.alloc();
-    let cases = [(false, Ok(()), Ok(())), (
-        true,
-        Err(Rule { number: 2 }),
-        Err(Rule { number: 3 }),
-    )];
+    let cases = [
+        (false, Ok(()), Ok(())),
+        (true, Err(Rule { number: 2 }), Err(Rule { number: 3 })),
+    ];
     for (strong, never, eventually) in cases {
         assert!(rt; check(&sequence(strong)) == Ok(()));
         let body = Subformula::new(alloc, sequence(strong))?;
