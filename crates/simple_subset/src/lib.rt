@@ -19,7 +19,7 @@ pub struct Rule {
 
 /// Whether the formula is in the simple subset; if not, the first rule in reading order that it
 /// breaks. It takes no memory, and recurs as deep as the formula is high.
-#[tactic(auto, using(crate::proofs::Lists::first_left, crate::proofs::Lists::first_right, crate::proofs::Lists::joined))]
+#[tactic(auto, using(crate::proofs::Lists::first_left, crate::proofs::Lists::first_right, crate::proofs::Lists::empty))]
 pub fn check(formula: &Formula) -> Result<(), Rule>
     ensures in_subset { IfOk result (λ _. InSubset (formula_of formula.now)) }
     ensures first_broken { IfErr result (λ rule. first_broken (formula_of formula.now) ≡ Some rule.number) }
