@@ -1,6 +1,6 @@
 -- Operators of formulas over Booleans, and the operators of expressions that stand for them.
 use Rattle.std.proofs.Common.{◌≡◌, ◌≢◌, ◌⊎◌, inl, inr, ℕ, zero, suc, List, Option, Some, None, refl, sym, subst, arith}
-use Rattle.std.specs.Prelude.{IsSome, IfSome, option_map, ◌==◌, ◌&&◌, if◌then◌else◌}
+use Rattle.std.specs.Prelude.{IsSome, IfSome, option_map, ◌==◌, ◌&&◌}
 use Rattle.std.specs.Prelude as prelude
 use Rattle.std.proofs.lemmas.Bool.Decides.{nat_tests}
 use Rattle.psl_model.specs.Expr.{Expr}

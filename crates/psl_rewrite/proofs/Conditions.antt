@@ -1,5 +1,5 @@
 -- What a base form takes over from its formula: what holds of its expressions, and its counts and ranges.
-use Rattle.std.proofs.Common.{◌≡◌, ◌≤◌, ◌+◌, ℕ, List, Bool, true, false, refl, arith}
+use Rattle.std.proofs.Common.{◌≤◌, ◌+◌, ℕ, List, Bool, true, false, refl, arith}
 use Rattle.std.specs.Prelude.{max}
 use Rattle.psl_model.specs.Expr.{Expr}
 use Rattle.psl_model.specs.Valid.{parentheses}

@@ -1,5 +1,5 @@
 -- The base form of a formula of the subset is satisfied by the same words.
-use Rattle.std.proofs.Common.{◌≡◌, ℕ, ◌-◌, List, [], ◌∷◌, ◌++◌, Bool, true, false, refl, sym, ap, subst, arith}
+use Rattle.std.proofs.Common.{◌≡◌, ℕ, ◌-◌, List, Bool, true, false, refl, sym, ap, subst, arith}
 use Rattle.std.specs.Prelude.{◌||◌, ◌&&◌}
 use Rattle.std.proofs.lemmas.Bool.{false≢true}
 use Rattle.psl_model.specs.Expr.{Expr}
@@ -11,8 +11,7 @@ use Rattle.psl_meaning.specs.SequenceSugar.{core_of, always_true}
 use Rattle.psl_meaning.specs.Formula.{CoreFormula, bool, not, and, strong, strong_until, suffix}
 use Rattle.psl_meaning.specs.FormulaSugar.{or, implies, everywhere, until_by, next_times, event_times, conjunction}
 use Rattle.psl_meaning.specs.FormulaSugar.{disjunction, core_formula_of, sequence_by}
-use Rattle.simple_subset.specs.Subset.{is_boolean, is_plain_sequence, unless, broken_rules, InSubset}
-use Rattle.psl_rewrite.specs.Base.{Base}
+use Rattle.simple_subset.specs.Subset.{is_boolean, is_plain_sequence, broken_rules, InSubset}
 use Rattle.psl_rewrite.specs.Meaning.{named}
 use Rattle.psl_rewrite.specs.SameMeaning.{MeanTheSame}
 use Rattle.psl_rewrite.specs.BaseForm.{as_expr, not_expr, and_expr, iff_expr, always_false, base_form_of}

@@ -3,7 +3,7 @@
 --     SereHas P r, FormulaHas P f, BaseHas P b     P of each expression, those in sequences too
 --     SereCounts r, FormulaCounts f, BaseCounts b  each count and each range is one that a unit may have
 --     formula_sequences f, base_sequences b        the sequences, in reading order
-use Rattle.std.specs.Prelude.{ℕ, ◌≡◌, ◌≤◌, List, [], ◌∷◌, ◌++◌, Option, Some, None, IfSome}
+use Rattle.std.specs.Prelude.{ℕ, ◌≡◌, ◌≤◌, List, [], ◌∷◌, ◌++◌, Option, Some, None}
 use Rattle.psl_model.specs.Expr.{Expr}
 use Rattle.psl_model.specs.Valid.{IsValid, parentheses}
 use Rattle.psl_model.specs.Sere as sere
