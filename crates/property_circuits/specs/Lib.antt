@@ -1,5 +1,4 @@
 pub mod Conditions
 pub mod Counts
 pub mod Starts
-pub mod Checks
 pub mod Refusals

@@ -8,8 +8,9 @@ ghost use Rattle.circuit_core.specs.Run.{On, Throughout, InEachRun, InEachCycle}
 ghost use Rattle.circuit_core.specs.Growth.{Extends, Grows};
 ghost use Rattle.circuit_core.specs.WellMade.{IsWidth, IsFinished};
 ghost use Rattle.property_circuits.specs.Conditions.{IsBuilt, HasGuards};
-ghost use Rattle.property_circuits.specs.Counts.{budget_of, steps_of, step_limit, told, register_bits};
-ghost use Rattle.property_circuits.specs.Checks.{Checks};
+ghost use Rattle.property_circuits.specs.Counts.{budget_of, steps_of, register_limit, step_limit, told};
+ghost use Rattle.property_circuits.specs.Counts.{register_bits};
+ghost use Rattle.circuit_meaning.specs.Checks.{Checks};
 ghost use Rattle.property_circuits.specs.Refusals.{IsRefusal, HasTooManyRegisters};
 ghost use Rattle.property_circuits.specs.declared.circuits.CircuitError.TheVariants.{OutOfMemory};
 
@@ -134,6 +135,8 @@ pub fn check_circuit(
     ensures widths { IfOk result (λ x. x.netlist.widths ≡ widths.now) }
     ensures bits { IfOk result (λ x. register_bits x.netlist ≤ budget_of (base_of base.now)) }
     ensures steps { IfOk result (λ x. x.steps ≡ steps_of (base_of base.now)) }
+    ensures within { OnOk result ((budget_of (base_of base.now) ≤ register_limit)
+        × (steps_of (base_of base.now) ≤ steps_left)) }
     ensures refused { IfErr result (λ e. IsRefusal (base_of base.now) steps_left e) }
     ensures too_many_registers { IsErrOf result (CircuitError.TooManyRegisters (told (budget_of (base_of base.now))))
         ↔ HasTooManyRegisters (base_of base.now) }
