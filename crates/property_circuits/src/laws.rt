@@ -1,15 +1,16 @@
 //! The recursion that makes a check, and laws of checks.
 
-ghost use Rattle.std.specs.Prelude.{◌≡◌, ◌↔◌, ◌≤◌, ◌+◌, ℕ, suc, List, IfOk, OnOk};
+ghost use Rattle.std.specs.Prelude.{◌≡◌, ◌↔◌, ◌<◌, ◌≤◌, ◌+◌, ℕ, suc, List, IfOk, OnOk, length};
 ghost use Rattle.psl_meaning.specs.Word.{Valuation};
 ghost use Rattle.psl_rewrite.specs.View.{base_of};
 ghost use Rattle.psl_rewrite.specs.Base as base;
 ghost use Rattle.circuit_core.specs.Netlist.{IsNet};
-ghost use Rattle.circuit_core.specs.Run.{Stream};
+ghost use Rattle.circuit_core.specs.Run.{Stream, On};
+ghost use Rattle.circuit_core.specs.Starts.{SomeStart, ComesBy};
 ghost use Rattle.circuit_core.specs.Growth.{Extends, Grows};
 ghost use Rattle.property_circuits.specs.Conditions.{IsBuilt, HasGuards};
 ghost use Rattle.property_circuits.specs.Counts.{registers_of, register_bits};
-ghost use Rattle.property_circuits.specs.Starts.{IsCheckIn, IsStop, StartViolates, Weak};
+ghost use Rattle.property_circuits.specs.Starts.{IsCheck, IsCheckIn, IsStop, StartViolates, StartPends, Weak};
 
 use crate::parts::{check_bool, join, open_starts, starts_with, starts_without};
 use circuit_core::laws::{a_netlist_is_well_made, growths_join};
@@ -87,6 +88,17 @@ fn check_variant(
         _ => unreachable!(),
     }
 }
+
+/// What the two streams of a check tell of starts. The function does nothing.
+pub fn a_check_tells_which_starts_violate_and_pend()
+    ensures fails { (widths : List ℕ) (trace : List Valuation) (f : base.Base) (start clear fail pend : Stream) →
+        IsCheck widths trace f start clear fail pend → (n : ℕ) → n < length trace →
+        ComesBy fail n ↔ SomeStart start n (StartViolates widths trace f clear n) }
+    ensures pends { (widths : List ℕ) (trace : List Valuation) (f : base.Base) (start clear fail pend : Stream) →
+        IsCheck widths trace f start clear fail pend → (n : ℕ) → n < length trace →
+        ¬ SomeStart start n (StartViolates widths trace f clear n) →
+        On pend n ↔ SomeStart start n (StartPends widths trace f clear n) }
+{}
 
 /// By n, a start has violated exactly if the letters from it up to its stop violate already: up to the cycle before the
 /// first that is cleared, or up to n. A start that is cleared in its own cycle never violates. The function does

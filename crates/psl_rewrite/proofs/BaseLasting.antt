@@ -3,7 +3,7 @@ use Rattle.std.proofs.Common.{◌≢◌, ℕ, ◌-◌, ◌<◌, List, [], ◌∷
 use Rattle.psl_model.specs.Sere.{Sere}
 use Rattle.psl_model.specs.Formula as formula
 use Rattle.psl_model.specs.Formula.{Formula}
-use Rattle.psl_meaning.specs.Word.{Valuation, Letter, valuation}
+use Rattle.psl_meaning.specs.Word.{Valuation, valuation}
 use Rattle.psl_meaning.specs.SequenceSugar.{core_of, always_true}
 use Rattle.psl_meaning.specs.Formula.{CoreFormula, bool, not, strong}
 use Rattle.psl_meaning.specs.FormulaSugar.{core_formula_of, next_times, event_times}

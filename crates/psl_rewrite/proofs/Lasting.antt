@@ -1,6 +1,6 @@
 -- What tops for ever satisfy, and that what a list satisfies as a word that ends, it satisfies followed by tops.
-use Rattle.std.proofs.Common.{◌≡◌, ◌≢◌, ◌⊎◌, inl, inr, ℕ, zero, suc, ◌+◌, ◌-◌, ◌<◌, ◌≤◌, List, [], ◌∷◌, Some, Bool}
-use Rattle.std.proofs.Common.{true, false, refl, sym, subst, drop, map, length, replicate, arith}
+use Rattle.std.proofs.Common.{◌≢◌, ◌⊎◌, inl, inr, ℕ, zero, suc, ◌+◌, ◌-◌, ◌<◌, ◌≤◌, List, [], ◌∷◌, Some, Bool}
+use Rattle.std.proofs.Common.{true, false, sym, subst, drop, map, length, replicate, arith}
 use Rattle.std.specs.Prelude.{slice_get}
 use Rattle.std.proofs.lemmas.Bool.{cases_lt}
 use Rattle.psl_model.specs.Expr.{Expr}

@@ -1,5 +1,5 @@
 -- Lists of letters, and how words go on after them.
-use Rattle.std.proofs.Common.{◌≡◌, ℕ, zero, suc, ◌+◌, ◌-◌, ◌<◌, ◌≤◌, List, [], ◌∷◌, ◌++◌, Option, Some, None, refl, sym}
+use Rattle.std.proofs.Common.{◌≡◌, ℕ, zero, suc, ◌-◌, ◌<◌, ◌≤◌, List, [], ◌∷◌, ◌++◌, Option, Some, None, refl, sym}
 use Rattle.std.proofs.Common.{ap, ◌∙◌, take, drop, map, length, replicate, arith}
 use Rattle.std.specs.Prelude.{slice_get, option_map, IsSome, IsSomeAnd}
 use Rattle.std.proofs.lemmas.List.{drop-map, take_all}

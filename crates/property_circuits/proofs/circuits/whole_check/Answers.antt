@@ -1,5 +1,4 @@
-use Rattle.std.proofs.Common.{◌≡◌, ◌≢◌, ℕ, ◌+◌, List, [], length, ap, ◌∙◌, subst, arith}
-use Rattle.psl_meaning.specs.Word.{Valuation}
+use Rattle.std.proofs.Common.{◌≡◌, ℕ, ◌+◌, List, [], ap, ◌∙◌, subst, arith}
 use Rattle.psl_rewrite.specs.View.{base_of}
 use Rattle.psl_rewrite.specs.Meaning.{named}
 use Rattle.psl_rewrite.specs.Obligations.{IsContradictory}

@@ -1,4 +1,4 @@
-use Rattle.std.proofs.Common.{◌≡◌, ℕ, ◌+◌, ap, ◌∙◌, subst, arith}
+use Rattle.std.proofs.Common.{◌≡◌, ℕ, ◌+◌, ap, subst, arith}
 use Rattle.psl_rewrite.specs.View.{base_of}
 use Rattle.psl_rewrite.specs.Base as base
 use Rattle.circuit_core.specs.Growth.{Grows}

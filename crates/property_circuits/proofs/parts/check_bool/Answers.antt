@@ -1,6 +1,6 @@
 use Rattle.psl_model.specs.View.{expr_of}
 use Rattle.psl_model.specs.Value.{own_value}
-use Rattle.std.proofs.Common.{ap, ◌∙◌}
+use Rattle.std.proofs.Common.{◌∙◌}
 use Rattle.property_circuits.proofs.Growing.{grows_same}
 use Rattle.property_circuits.proofs.Judging.{bool_check, is_zero}
 use Rattle.property_circuits.proofs.parts.check_bool.Goals as goal
