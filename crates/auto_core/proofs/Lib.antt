@@ -5,6 +5,7 @@ pub mod ExploreState
 pub mod Filtered
 pub mod LabelLemmas
 pub mod LabelOrder
+pub mod Lasts
 pub mod Marking
 pub mod Members
 pub mod Once

@@ -5,6 +5,7 @@
 mod aliveness;
 mod automaton;
 mod exploring;
+mod indexed;
 mod labels;
 pub mod laws;
 mod tables;
@@ -12,6 +13,7 @@ mod tables;
 pub use aliveness::{Marks, alive};
 pub use automaton::Auto;
 pub use exploring::{TableError, materialise};
+pub use indexed::IndexedTable;
 pub use labels::{Label, Literal};
 pub use tables::{Edge, Table};
 

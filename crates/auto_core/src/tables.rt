@@ -1,17 +1,18 @@
 //! Automata that are stored whole.
 
-ghost use Rattle.std.specs.Prelude.{◌≡◌, ◌+◌, ◌<◌, ◌==◌, false, Some, All, Contains};
+ghost use Rattle.std.specs.Prelude.{◌≡◌, ◌+◌, ◌<◌, ◌==◌, ◌↔◌, true, false, List, [], ◌∷◌, Some, All, Contains, IfOk};
 ghost use Rattle.std.specs.Prelude.{length, filter, map, slice_get, slice_index_or};
 ghost use Rattle.std.proofs.lemmas.Bool.Decides.{Decides-eqb};
 ghost use Rattle.auto_core.specs.LiteralSets.{IsLabel};
 ghost use Rattle.auto_core.specs.Edges.{HasAtMost};
 ghost use Rattle.auto_core.specs.Graph.{graph_machine, edges_from};
+ghost use Rattle.auto_core.specs.Machine.{Letter, Accepts};
 ghost use Rattle.auto_core.specs.inner.Rows.{HasEdgesOf, IsFiled};
 
 use crate::automaton::Auto;
 use crate::labels::Label;
 use indexmap::IndexSet;
-use std::alloc::AllocError;
+use std::alloc::{AllocError, Global};
 use std::marker::Model;
 
 /// An edge between two numbered states.
@@ -69,6 +70,20 @@ impl Table {
 }
 
 impl Table {
+    /// The table of the automaton that accepts the list of no letter alone: one state, which accepts, and no edge.
+    pub fn of_no_letter(alloc: Global) -> Result<Table, AllocError>
+        ensures value { IfOk result (λ table. table ≡ record { accepting = true ∷ []; edges = [] }) }
+        ensures words { IfOk result (λ table. (w : List Letter) → Accepts (graph_machine table) w ↔ (w ≡ [])) }
+    {
+        let mut rows = Vec::new(alloc);
+        rows.push(Row {
+            accepts: true,
+            first: 0,
+            end: 0,
+        })?;
+        Ok(Table::from_rows(rows, IndexSet::new(alloc)))
+    }
+
     pub(crate) fn from_rows(rows: Vec<Row>, edges: IndexSet<Edge>) -> Table
         requires { IsFiled rows.items edges.keys }
         ensures accepting { result.accepting ≡ map (λ r. r.accepts) rows.items }

@@ -1,10 +1,10 @@
 //! Laws of netlists. The functions do nothing: each contract is the law.
 
-ghost use Rattle.std.specs.Prelude.{◌≡◌, ◌↔◌, ◌<◌, ◌≤◌, ◌+◌, ℕ, suc, Some, length, slice_get};
+ghost use Rattle.std.specs.Prelude.{◌≡◌, ◌↔◌, ◌<◌, ◌≤◌, ◌+◌, ℕ, suc, Some, IsSome, length, slice_get};
 ghost use Rattle.circuit_core.specs.Netlist as plain;
 ghost use Rattle.circuit_core.specs.Netlist.{IsNet, IsNetOf};
 ghost use Rattle.circuit_core.specs.WellMade.{IsWellMade, IsFinished};
-ghost use Rattle.circuit_core.specs.Growth.{Extends, IsSet, Grows, closed};
+ghost use Rattle.circuit_core.specs.Growth.{Extends, IsSet, HaveNexts, Grows, closed};
 ghost use Rattle.circuit_core.specs.Run.{Inputs, Run, IsRunOf, InEachRun};
 
 pub use crate::netlist::a_netlist_is_well_made;
@@ -19,6 +19,11 @@ pub fn a_finished_netlist_has_one_run()
     ensures { (m : plain.Netlist) (inputs : Inputs) (first second : Run) → IsFinished m →
         IsRunOf m inputs first → IsRunOf m inputs second →
         (n : ℕ) → n < length inputs.trace → (k : ℕ) → IsNet m k → first k n ≡ second k n }
+{}
+
+/// A netlist is finished once each register's next and the output are set.
+pub fn a_netlist_with_all_set_is_finished()
+    ensures { (m : plain.Netlist) → IsWellMade m → HaveNexts m 0 → IsSome m.output → IsFinished m }
 {}
 
 /// Each netlist extends itself, and what extends an extension extends the netlist.

@@ -1,5 +1,5 @@
 -- The units that are compiled today: `vunit NAME { assert always NAME; }`. This project's own spelling of tokens, after
--- IEEE 1850-2010, 4.1.
+-- IEEE 1850-2010, 4.2.
 --     IsThinForm bytes name signal     the bytes spell the thin form of a unit of this name, over this signal
 --     StandsForUnit bytes unit         the bytes stand for the unit
 use Rattle.std.specs.Prelude.{◌≡◌, ◌≢◌, ◌≤◌, ℕ, Bool, ◌==◌, ◌||◌, List, [], ◌∷◌, ◌++◌, length, codes, None, IsTrue}

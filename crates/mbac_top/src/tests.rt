@@ -43,69 +43,79 @@ fn ran(
     Ok((outcome, out, notes))
 }
 
+const NEVER: &[u64] = &[];
+
+// Whether a run with these calls failing has this status, wrote this text and told this.
+fn ends(
+    alloc: Global,
+    words: &[&str],
+    file: &[u8],
+    failing: (&[u64], &[u64]),
+    want: (Outcome, &[u8], &str),
+) -> Result<bool, AllocError> {
+    let (reads, writes) = failing;
+    let (wanted, text, note) = want;
+    let (outcome, out, notes) = ran(alloc, words, file, reads, writes, NEVER)?;
+    let line = match wanted.status {
+        0 => String::new(alloc),
+        _ => format!(in alloc; "mbac: {note}\n")?,
+    };
+    Ok(outcome == wanted && out.taken() == text && notes.taken() == line.as_bytes())
+}
+
 #[test]
-fn ends_with_each_cause(rt: HostRuntime) -> Result<(), Fail> {
-    let alloc = rt.alloc();
-    let too_many = vec![in alloc; b' '; 1_048_577]?;
-    let blanks = vec![in alloc; b' '; 1_048_576]?;
-    let never: &[u64] = &[];
-    let first: &[u64] = &[0];
-    let second: &[u64] = &[1];
+fn ends_with_done_usage_and_faults(rt: HostRuntime) -> Result<(), Fail> {
+    let read: &[u64] = &[0];
+    let write: &[u64] = &[1];
     let no_file: &[&str] = &["compile"];
     let empty: &[&str] = &["compile", ""];
-    for (words, file, reads, writes, status, cause, text, note) in [
-        (COMMAND, UNIT, never, never, 0, Cause::Done, CHECKER, ""),
-        (no_file, UNIT, never, never, 2, Cause::Usage, b"", "usage"),
-        (empty, UNIT, never, never, 2, Cause::Usage, b"", "usage"),
+    let fault = Cause::ReadFault { slot: 0 };
+    for (words, failing, status, cause, text, note) in [
+        (COMMAND, (NEVER, NEVER), 0, Cause::Done, CHECKER, ""),
+        (no_file, (NEVER, NEVER), 2, Cause::Usage, b"", "usage"),
+        (empty, (NEVER, NEVER), 2, Cause::Usage, b"", "usage"),
         (
             COMMAND,
-            UNIT,
-            first,
-            never,
+            (read, NEVER),
             3,
-            Cause::ReadFault { slot: 0 },
+            fault,
             b"",
             "read fault in file 0",
         ),
         (
             COMMAND,
-            UNIT,
-            never,
-            second,
+            (NEVER, write),
             4,
             Cause::WriteFault,
             b"module mba",
             "write fault",
         ),
-        (
-            COMMAND,
-            &too_many,
-            never,
-            never,
-            6,
-            Cause::InputTooLong { slot: 0 },
-            b"",
-            "InputTooLong 0",
-        ),
-        (
+    ] {
+        let outcome = Outcome { status, cause };
+        let as_wanted = ends(rt.alloc(), words, UNIT, failing, (outcome, text, note))?;
+        assert!(rt; as_wanted, "{note}");
+    }
+    Ok(())
+}
+
+#[test]
+fn refuses_what_is_too_long_or_no_unit(rt: HostRuntime) -> Result<(), Fail> {
+    let alloc = rt.alloc();
+    let too_long = Cause::InputTooLong { slot: 0 };
+    for (length, cause, note) in [
+        (1_048_577, too_long, "InputTooLong 0"),
+        (1_048_576, Cause::Unbuilt, "Unbuilt"),
+    ] {
+        let blanks = vec![in alloc; b' '; length]?;
+        let outcome = Outcome { status: 6, cause };
+        let as_wanted = ends(
+            alloc,
             COMMAND,
             &blanks,
-            never,
-            never,
-            6,
-            Cause::Unbuilt,
-            b"",
-            "Unbuilt",
-        ),
-    ] {
-        let (outcome, out, notes) = ran(alloc, words, file, reads, writes, never)?;
-        assert_eq!(rt; outcome, Outcome { status, cause });
-        assert_eq!(rt; out.taken(), text, "after {note}");
-        let line = match status {
-            0 => String::new(alloc),
-            _ => format!(in alloc; "mbac: {note}\n")?,
-        };
-        assert_eq!(rt; notes.taken(), line.as_bytes());
+            (NEVER, NEVER),
+            (outcome, b"", note),
+        )?;
+        assert!(rt; as_wanted, "{note}");
     }
     Ok(())
 }

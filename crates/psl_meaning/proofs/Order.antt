@@ -185,7 +185,7 @@ tight_above widths (sequence.star r) xs ys h (n, copies) =
 
 -- ---- words
 
-slice_get-drop_at : (xs : List Letter) (k j : ℕ) → slice_get (drop k xs) j ≡ slice_get xs (k + j)
+pub slice_get-drop_at : (xs : List Letter) (k j : ℕ) → slice_get (drop k xs) j ≡ slice_get xs (k + j)
 slice_get-drop_at xs zero j = ap (λ (i : ℕ). slice_get xs i) (let e : j ≡ 0 + j = omega arith in e)
 slice_get-drop_at [] (suc k) j = refl
 slice_get-drop_at (x ∷ xs) (suc k) j =
@@ -218,7 +218,7 @@ slice_get-filling_past ended n k past = refl
 slice_get-filling_past tops n k past = slice_get-replicate_past top n k past
 slice_get-filling_past bottoms n k past = slice_get-replicate_past bottom n k past
 
-first_of : (xs : List Letter) (e : Ending) (n k : ℕ) → k < n →
+pub first_of : (xs : List Letter) (e : Ending) (n k : ℕ) → k < n →
     slice_get (take n xs ++ filling e (n - length xs)) k ≡ option_or (slice_get xs k) (after_end e)
 first_of xs e zero k within = absurd (omega arith)
 first_of [] e (suc n) k within =
@@ -229,7 +229,7 @@ first_of (x ∷ xs) e (suc n) (suc k) within =
     let less : suc n - suc (length xs) ≡ n - length xs = omega arith in
     ap (λ (m : ℕ). slice_get (take n xs ++ filling e m) k) less ∙ first_of xs e n k (omega arith)
 
-first_past : (xs : List Letter) (e : Ending) (n k : ℕ) → n ≤ k →
+pub first_past : (xs : List Letter) (e : Ending) (n k : ℕ) → n ≤ k →
     slice_get (take n xs ++ filling e (n - length xs)) k ≡ None
 first_past xs e zero k past =
     let none : 0 - length xs ≡ 0 = omega arith in

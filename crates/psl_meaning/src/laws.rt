@@ -1,12 +1,12 @@
 //! Laws of words and formulas. The functions do nothing: each contract is the law.
 
 ghost use Rattle.std.specs.Prelude.{◌≡◌, ◌≢◌, ◌↔◌, ◌<◌, ◌≤◌, ◌++◌, ◌⊎◌, ℕ, List, [], Some, None, Any, drop, length};
-ghost use Rattle.std.specs.Prelude.{map, slice_get};
+ghost use Rattle.std.specs.Prelude.{◌+◌, map, option_map, slice_get};
 ghost use Rattle.psl_model.specs.Expr.{Expr};
 ghost use Rattle.psl_model.specs.Formula.{Formula, bool, always};
 ghost use Rattle.psl_model.specs.Value.{own_value};
 ghost use Rattle.psl_meaning.specs.Word.{Valuation, Letter, Word, bar, finite, with_tops, from, letter_at, Reaches};
-ghost use Rattle.psl_meaning.specs.Word.{valuation, top};
+ghost use Rattle.psl_meaning.specs.Word.{valuation, top, bar_letter, first};
 ghost use Rattle.psl_meaning.specs.Sequence.{CoreSere, star, Copies, Tight};
 ghost use Rattle.psl_meaning.specs.SequenceSugar.{repeated};
 ghost use Rattle.psl_meaning.specs.Formula.{CoreFormula, Satisfies};
@@ -16,6 +16,15 @@ ghost use Rattle.psl_meaning.specs.Violation.{WeaklyViolates, Violates};
 /// To exchange tops and bottoms twice gives the word.
 pub fn bar_of_bar_is_the_word()
     ensures { (w : Word) → bar (bar w) ≡ w }
+{}
+
+/// The bar of a word has its letters exchanged, each in its place. The suffix from place k on has the letters from k
+/// on, and the first n letters are those below n, whether the word lists them or goes on with them.
+pub fn letters_keep_their_places()
+    ensures bar { (w : Word) (k : ℕ) → letter_at (bar w) k ≡ option_map bar_letter (letter_at w k) }
+    ensures suffix { (w : Word) (k j : ℕ) → letter_at (from k w) j ≡ letter_at w (k + j) }
+    ensures prefix { (w : Word) (n k : ℕ) → k < n → slice_get (first n w) k ≡ letter_at w k }
+    ensures prefix_ends { (w : Word) (n k : ℕ) → n ≤ k → slice_get (first n w) k ≡ None }
 {}
 
 /// A word of letters and then tops never ends. At a place of a list of valuations its letter is the valuation, and from

@@ -1,4 +1,4 @@
--- What a name may be: this project's own spelling, a part of IEEE 1850-2010, 4.1.
+-- What a name may be: this project's own spelling, a part of IEEE 1850-2010, 4.2.
 use Rattle.std.specs.Prelude.{◌≢◌, ℕ, ◌≤◌, Bool, true, nat_eq, nat_le, ◌==◌, ◌&&◌, ◌||◌, List, [], ◌∷◌, length, codes}
 use Rattle.std.specs.Prelude.{IsTrue, Contains}
 use Rattle.std.specs.List.{list_all, starts_with}

@@ -1,6 +1,7 @@
 //! Expressions over the signals of a unit or a module.
 
-ghost use Rattle.std.specs.Prelude.{◌≡◌, IfOk};
+ghost use Rattle.std.specs.Prelude.{◌≡◌, ◌++◌, IfOk, fold};
+ghost use Rattle.std.specs.Hash as fed;
 ghost use Rattle.std.specs.Cmp.{on_equiv, partial_equiv_from_equiv};
 ghost use Rattle.psl_model.specs.View.{expr_of};
 ghost use Rattle.psl_model.specs.inner.SameCode.{same_code-equiv, fed_code, fed_code-alike};
@@ -66,29 +67,19 @@ impl Hash for Expr {
 
     fn hash<H: Hasher>(&self, state: &mut H) {
         match self {
-            Expr::Whole(signal) => {
-                state.write_u128(0);
-                state.write_u128(*signal as u128);
-            }
+            Expr::Whole(signal) => hash_pair(0, *signal as u128, state),
             Expr::Bit(signal, place) => {
                 state.write_u128(1);
-                state.write_u128(*signal as u128);
-                state.write_u128(u128::from(*place));
+                hash_pair(*signal as u128, u128::from(*place), state);
             }
             Expr::Part(signal, high, low) => {
-                state.write_u128(2);
-                state.write_u128(*signal as u128);
-                state.write_u128(u128::from(*high));
-                state.write_u128(u128::from(*low));
+                hash_pair(2, *signal as u128, state);
+                hash_pair(u128::from(*high), u128::from(*low), state);
             }
-            Expr::Plain(number) => {
-                state.write_u128(3);
-                state.write_u128(u128::from(*number));
-            }
+            Expr::Plain(number) => hash_pair(3, u128::from(*number), state),
             Expr::Sized(width, value) => {
                 state.write_u128(4);
-                state.write_u128(u128::from(*width));
-                state.write_u128(*value);
+                hash_pair(u128::from(*width), *value, state);
             }
             Expr::Unary(op, operand) => {
                 state.write_u128(5);
@@ -109,6 +100,13 @@ impl Hash for Expr {
             }
         }
     }
+}
+
+fn hash_pair<H: Hasher>(first: u128, second: u128, state: &mut H)
+    ensures { state.new ≡ fold H.write state.old (fed.u128 first ++ fed.u128 second) }
+{
+    state.write_u128(first);
+    state.write_u128(second);
 }
 
 impl Expr {

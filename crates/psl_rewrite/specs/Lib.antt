@@ -2,4 +2,8 @@ pub mod CoreSere
 pub mod Base
 pub mod View
 pub mod Meaning
+pub mod Obligations
+pub mod BaseForm
+pub mod SameMeaning
+pub mod Conditions
 pub mod inner

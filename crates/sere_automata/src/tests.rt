@@ -7,7 +7,7 @@ ghost use Rattle.auto_core.specs.Machine.{Letter, Accepts};
 ghost use Rattle.auto_core.specs.Splits.{IsConcatenation, IsFusion};
 
 use super::*;
-use auto_core::{Auto, Label, Literal, Table, TableError, alive, materialise};
+use auto_core::{Auto, IndexedTable, Label, Literal, Table, TableError, alive, materialise};
 use automata_product::{Both, Fuse};
 use std::alloc::{AllocError, Global};
 use std::test::Fail;
@@ -73,10 +73,10 @@ fn composed(a: Leaf, b: Leaf, c: Leaf, d: Leaf) -> Both<Fuse<Leaf, Leaf>, Concat
 
 // Whether both tables have few edges; then what is made of them fits.
 fn are_small(left: &Table, right: &Table) -> bool
-    ensures left { IsTrue result → HasAtMost (⟦<Table as Auto>⟧.own left.now) (graph_machine left.now) 10000 }
-    ensures right { IsTrue result → HasAtMost (⟦<Table as Auto>⟧.own right.now) (graph_machine right.now) 10000 }
+    ensures left { IsTrue result → HasAtMost (⟦<Table as Auto>⟧.own left.now) (graph_machine left.now) 100000 }
+    ensures right { IsTrue result → HasAtMost (⟦<Table as Auto>⟧.own right.now) (graph_machine right.now) 100000 }
 {
-    left.edges().len() <= 10000 && right.edges().len() <= 10000
+    left.edges().len() <= 100_000 && right.edges().len() <= 100_000
 }
 
 // The tables of both, of the overlaps in one letter, of one after the other, of either, and of any number.
@@ -87,11 +87,11 @@ fn together(alloc: Global, left: &Table, right: &Table) -> Result<Table, TableEr
     materialise(alloc, &Both::new(left, right), 2000)
 }
 
-fn overlapped(alloc: Global, left: &Table, right: &Table) -> Result<Table, TableError> {
-    if !are_small(left, right) {
+fn overlapped(alloc: Global, left: &IndexedTable, right: &Table) -> Result<Table, TableError> {
+    if !are_small(left.table(), right) {
         return Err(TableError::TooMany);
     }
-    materialise(alloc, &Fuse::new(left, right), 2000)
+    materialise(alloc, &Fuse::new(left, right), 40_000)
 }
 
 fn followed(alloc: Global, left: &Table, right: &Table) -> Result<Table, TableError> {
@@ -105,7 +105,7 @@ fn either(alloc: Global, left: &Table, right: &Table) -> Result<Table, TableErro
     if !are_small(left, right) {
         return Err(TableError::TooMany);
     }
-    materialise(alloc, &OneOf::new(left, right), 2000)
+    materialise(alloc, &OneOf::new(left, right), 40_000)
 }
 
 fn again_and_again(alloc: Global, inner: &Table) -> Result<Table, TableError> {
@@ -159,7 +159,8 @@ fn a_step_that_nothing_passes_is_alive(rt: HostRuntime) -> Result<(), Fail> {
 #[test]
 fn a_fusion_overlaps_in_one_letter(rt: HostRuntime) -> Result<(), Fail> {
     let alloc = rt.alloc();
-    let table = overlapped(alloc, &two_steps(alloc, 0, 1)?, &two_steps(alloc, 1, 2)?)?;
+    let left = IndexedTable::new(alloc, two_steps(alloc, 0, 1)?)?;
+    let table = overlapped(alloc, &left, &two_steps(alloc, 1, 2)?)?;
     let a = Some([true, false, false]);
     let b = Some([false, true, false]);
     let c = Some([false, false, true]);
@@ -212,15 +213,29 @@ fn a_repeated_choice_takes_either_each_time(rt: HostRuntime) -> Result<(), Fail>
     Ok(())
 }
 
+// A state with 16,384 edges, each to a state of its own that accepts.
 #[test]
 fn many_overlaps_take_time_by_the_edges(rt: HostRuntime) -> Result<(), Fail> {
     let alloc = rt.alloc();
     let mut left = symbol_table(alloc, 0)?;
-    for symbol in 1..300 {
-        left = either(alloc, &left, &symbol_table(alloc, symbol)?)?;
+    for _ in 0..14 {
+        left = either(alloc, &left, &left)?;
     }
+    assert_eq!(rt; left.edges().len(), 16384);
     let right = either(alloc, &symbol_table(alloc, 0)?, &symbol_table(alloc, 1)?)?;
-    let table = overlapped(alloc, &left, &right)?;
-    assert_eq!(rt; table.edges().len(), 900);
+    let table = overlapped(alloc, &IndexedTable::new(alloc, left)?, &right)?;
+    assert_eq!(rt; table.edges().len(), 16386);
+    Ok(())
+}
+
+#[test]
+fn no_letter_before_a_step_is_that_step(rt: HostRuntime) -> Result<(), Fail> {
+    let alloc = rt.alloc();
+    let nothing = Table::of_no_letter(alloc)?;
+    assert!(rt; accepts_from(&nothing, nothing.start(), &[]));
+    assert!(rt; !accepts_from(&nothing, nothing.start(), &[None]));
+    let table = followed(alloc, &nothing, &symbol_table(alloc, 0)?)?;
+    assert!(rt; !accepts_from(&table, table.start(), &[]));
+    assert!(rt; accepts_from(&table, table.start(), &[Some([true, false, false])]));
     Ok(())
 }

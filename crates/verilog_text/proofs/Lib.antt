@@ -2,4 +2,14 @@ pub mod Growth
 pub mod Joins
 pub mod Numbered
 pub mod Places
+pub mod PortNames
 pub mod SmallChecker
+pub mod Tables
+pub mod Numbering
+pub mod WireOrder
+pub mod Settle
+pub mod OneRun
+pub mod NodeValues
+pub mod KeptStream
+pub mod Lawfulness
+pub mod Translating

@@ -1,16 +1,12 @@
 -- The small checker is lawful, and its output is the negation of its port.
-use Rattle.std.proofs.Common.{◌≡◌, ℕ, zero, suc, ◌%◌, ◌^◌, ◌++◌, Bool, true, List, [], ◌∷◌, refl, ap, ◌∙◌, arith}
+use Rattle.std.proofs.Common.{◌≡◌, ℕ, zero, suc, ◌%◌, ◌^◌, ◌++◌, List, [], ◌∷◌, refl, ap, ◌∙◌, arith}
 use Rattle.std.proofs.Common.{get_or}
-use Rattle.std.specs.Prelude.{◌≢◌, ◌==◌, not, bytes_eq, Contains, codes, All, AllPairs, IfSome, slice_get}
-use Rattle.std.specs.List.{list_all}
-use Rattle.std.proofs.lemmas.List.Elements.{All-contains}
-use Rattle.std.proofs.lemmas.List.Sums.{AllPass-from_list_all}
-use Rattle.psl_model.specs.Reserved.{language_words, left_out_words, verilog_words}
-use Rattle.psl_model.specs.Names.{IsUsableName}
+use Rattle.std.specs.Prelude.{◌≢◌, ◌==◌, not, codes, All, AllPairs, IfSome, slice_get}
 use Rattle.psl_model.specs.Value.{bit_of}
 use Rattle.verilog_text.specs.Module.{IsLawful, IsPort, IsRegister, IsWire}
 use Rattle.verilog_text.specs.Run.{Cycle, IsSettled, IsRunFromReset, fail_stream}
 use Rattle.verilog_text.specs.Examples.{small_checker, one_then_zero}
+use Rattle.verilog_text.proofs.PortNames.{a_is_usable}
 
 one : {X : Type 0} (P : X → Type 0) (x : X) → P x → All P (x ∷ [])
 one P x holds zero d lt = holds
@@ -19,38 +15,6 @@ one P x holds (suc k) d lt = absurd (omega arith)
 one_alone : {X : Type 0} (R : X → X → Type 0) (x : X) → AllPairs R (x ∷ [])
 one_alone R x i zero d lt within = absurd (omega arith)
 one_alone R x i (suc j) d lt within = absurd (omega arith)
-
-abbrev is_another : List ℕ → Bool
-is_another word = not (bytes_eq word (codes "a"))
-
-not_among : (words : List (List ℕ)) → list_all is_another words ≡ true → ¬ Contains words (codes "a")
-not_among words others found =
-    let each = AllPass-from_list_all is_another words others in
-    let refused : is_another (codes "a") ≡ true =
-    All-contains (λ (word : List ℕ). is_another word ≡ true) words (codes "a") each found in
-    cc
-
-no_language_word : list_all is_another language_words ≡ true
-unfolding language_words
-no_language_word = refl
-
-no_left_out_word : list_all is_another left_out_words ≡ true
-unfolding left_out_words
-no_left_out_word = refl
-
-no_verilog_word : list_all is_another verilog_words ≡ true
-unfolding verilog_words
-no_verilog_word = refl
-
-usable : IsUsableName (codes "a")
-usable = record {
-  identifier = (refl, refl);
-  short = omega arith;
-  no_prefix = λ e. cc;
-  no_word = not_among language_words no_language_word;
-  no_left_out_word = not_among left_out_words no_left_out_word;
-  no_verilog_word = not_among verilog_words no_verilog_word;
-}
 
 wires : (place : ℕ) → IfSome (slice_get small_checker.wires place) (IsWire small_checker place)
 wires zero = record {
@@ -72,7 +36,7 @@ lawful = record {
   prefix = refl;
   report = tt;
   ports = one IsPort (record { name = codes "a"; width = 1 })
-      (record { name = usable; width = (omega arith, omega arith) });
+      (record { name = a_is_usable; width = (omega arith, omega arith) });
   distinct = one_alone (λ p q. p ≢ q) (codes "a");
   registers = one (IsRegister small_checker) _ (record {
     width = (omega arith, omega arith);

@@ -3,4 +3,8 @@ pub mod View
 pub mod Text
 pub mod Growth
 pub mod Run
+pub mod Interface
+pub mod State
+pub mod Stream
 pub mod Examples
+pub mod inner

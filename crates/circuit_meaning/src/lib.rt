@@ -1,0 +1,2 @@
+//! What it means that a netlist checks a formula.
+#![tactic(auto)]

@@ -1,0 +1,6 @@
+pub mod Letters
+pub mod Growing
+pub mod Streams
+pub mod Judging
+pub mod Rising
+pub mod Stopping

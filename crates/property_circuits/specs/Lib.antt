@@ -1,0 +1,4 @@
+pub mod Conditions
+pub mod Counts
+pub mod Starts
+pub mod Refusals

@@ -1,0 +1,12 @@
+//! Checks as circuits: from a base formula to a netlist whose output tells where a trace violates it.
+#![tactic(auto)]
+
+mod circuits;
+mod counts;
+pub mod laws;
+mod parts;
+
+pub use circuits::{Circuit, CircuitError, check_circuit};
+
+#[cfg(test)]
+mod tests;

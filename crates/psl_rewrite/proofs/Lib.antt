@@ -1,0 +1,17 @@
+pub mod Lists
+pub mod KnownLaws
+pub mod Lasting
+pub mod BaseLasting
+pub mod Sides
+pub mod Demands
+pub mod WordLaws
+pub mod Congruence
+pub mod Booleans
+pub mod Bottoms
+pub mod Keeps
+pub mod NamedSimple
+pub mod OrForm
+pub mod Obliges
+pub mod Conditions
+pub mod Sequences
+pub mod Traces

@@ -1,0 +1,15 @@
+pub mod Declared
+pub mod Evaluation
+pub mod Examples
+pub mod Lines
+pub mod Lists
+pub mod Machines
+pub mod Names
+pub mod Narrow
+pub mod Programs
+pub mod Ready
+pub mod Shifts
+pub mod Step
+pub mod Trace
+pub mod Unique
+pub mod Wrapping

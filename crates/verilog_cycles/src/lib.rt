@@ -1,0 +1,14 @@
+//! The cycles of a checker module: a machine that runs it.
+#![tactic(auto)]
+
+mod arithmetic;
+mod cycles;
+pub mod laws;
+mod loading;
+mod machine;
+mod nodes;
+mod program;
+#[cfg(test)]
+mod tests;
+
+pub use machine::Machine;
