@@ -5,8 +5,8 @@ use Rattle.psl_lexer.specs.declared.kinds.Token.{Token}
 use Rattle.psl_lexer.specs.declared.kinds.Kind.{Kind}
 use Rattle.psl_lexer.specs.declared.kinds.Kind.TheVariants as kind
 use Rattle.psl_grammar.specs.declared.symbols.Symbol.{Symbol}
-use Rattle.psl_grammar.specs.Symbols.{symbol_at}
-use Rattle.psl_parser.specs.Units.{Known, kind_symbol, meaning_of, bytes_of, symbol_in, symbols_in, no_token, is_plain}
+use Rattle.psl_grammar.specs.Symbols.{symbol_at, is_name}
+use Rattle.psl_parser.specs.Units.{Known, kind_symbol, meaning_of, bytes_of, symbol_in, symbols_in, no_token}
 use Rattle.psl_parser.specs.inner.Learned.{relearned, relearned_kind}
 
 -- a token is seen as before, but for those of the name
@@ -65,9 +65,9 @@ grown text known name meaning tokens i lt symbols bytes s old before after pushe
     ∙ ap (λ (x : Symbol). take i (symbols_in text ((name, meaning) ∷ known) tokens) ++ x ∷ []) one
     ∙ sym (next_learned text known name meaning tokens i lt)
 
--- a name that has no meaning yet is a token
-pub plain_within : (text : List ℕ) (known : Known) (tokens : List Token) (i : ℕ) → length tokens ≤ i
-    → is_plain (symbol_at (symbols_in text known tokens) i) ≡ false
-plain_within text known [] i le = refl
-plain_within text known (t ∷ ts) zero le = absurd (omega arith)
-plain_within text known (t ∷ ts) (suc i) le = plain_within text known ts i (omega arith)
+-- a name is a token
+pub name_within : (text : List ℕ) (known : Known) (tokens : List Token) (i : ℕ) → length tokens ≤ i
+    → is_name (symbol_at (symbols_in text known tokens) i) ≡ false
+name_within text known [] i le = refl
+name_within text known (t ∷ ts) zero le = absurd (omega arith)
+name_within text known (t ∷ ts) (suc i) le = name_within text known ts i (omega arith)

@@ -1,5 +1,6 @@
 -- Which tokens of a text are a unit. A name is what the items before it make of it.
-use Rattle.std.specs.Prelude.{◌≡◌, ℕ, ◌+◌, nat_eq, Bool, true, false, cond, List, [], ◌∷◌, ◌++◌, length, map, slice_range, slice_index_or}
+use Rattle.std.specs.Prelude.{◌≡◌, ℕ, ◌+◌, nat_eq, cond, List, [], ◌∷◌, ◌++◌, length, map, slice_range}
+use Rattle.std.specs.Prelude.{slice_index_or}
 use Rattle.std.specs.Cmp.Lexicographic.{pointwise}
 use Rattle.psl_lexer.specs.declared.kinds.Key.{Key}
 use Rattle.psl_lexer.specs.declared.kinds.Key.TheVariants as key
@@ -12,7 +13,7 @@ use Rattle.psl_grammar.specs.declared.symbols.Symbol.{Symbol}
 use Rattle.psl_grammar.specs.declared.symbols.Symbol.TheVariants as symbol
 use Rattle.psl_grammar.specs.RawUnit as raw
 use Rattle.psl_grammar.specs.RawUnit.{RawItem, RawUnit}
-use Rattle.psl_grammar.specs.Symbols.{symbol_at, At}
+use Rattle.psl_grammar.specs.Symbols.{symbol_at, At, is_name}
 use Rattle.psl_grammar.specs.ItemGrammar.{AnyName, IsItem, IsShort}
 
 -- ---- what the grammar sees of a token
@@ -128,14 +129,10 @@ no_token = record { kind = kind.Text; start = 0; «end» = 0 }
 abbrev pub name_at : (text : List ℕ) → List Token → ℕ → List ℕ
 name_at text tokens n = bytes_of text (slice_index_or tokens n no_token)
 
-abbrev pub is_plain : Symbol → Bool
-is_plain symbol.Name = true
-is_plain _ = false
-
--- a name that has a meaning keeps it
+-- behind its item a declared name has this meaning, also where it had another
 abbrev pub learned : (text : List ℕ) → List Token → Known → (name : ℕ) → Symbol → Known
 learned text tokens known name meaning =
-    cond (is_plain (symbol_at (symbols_in text known tokens) name)) ((name_at text tokens name, meaning) ∷ known) known
+    cond (is_name (symbol_at (symbols_in text known tokens) name)) ((name_at text tokens name, meaning) ∷ known) known
 
 abbrev pub known_after : (text : List ℕ) → List Token → Known → RawItem → Known
 known_after text tokens known (raw.RawItem.sequence name body) = learned text tokens known name symbol.SequenceName

@@ -4,11 +4,11 @@ ghost use Rattle.std.specs.Prelude.{◌≡◌, ◌<◌, ◌≤◌, ◌∷◌, Li
 ghost use Rattle.psl_grammar.specs.Symbols.{symbol_at};
 ghost use Rattle.psl_lexer.specs.Order.{LiesWithin};
 ghost use Rattle.psl_parser.specs.declared.errors.ParseError.TheVariants.{OutOfMemory};
-ghost use Rattle.psl_parser.specs.Units.{Known, word_symbol, mark_symbol, kind_symbol, bytes_of, symbol_in, symbols_in, no_token, name_at, learned, is_plain};
+ghost use Rattle.psl_parser.specs.Units.{Known, word_symbol, mark_symbol, kind_symbol, bytes_of, symbol_in, symbols_in, no_token, name_at, learned};
 ghost use Rattle.psl_parser.specs.inner.Learned.{relearned};
 
 use crate::errors::ParseError;
-use crate::symbols::symbol_at;
+use crate::symbols::{is_name, symbol_at};
 use psl_grammar::Symbol;
 use psl_lexer::{Key, Kind, Mark, Token};
 use std::alloc::{AllocError, Global};
@@ -194,14 +194,8 @@ fn learn(
     Ok(all)
 }
 
-fn is_plain(symbol: Symbol) -> bool
-    ensures { result ≡ is_plain symbol }
-{
-    matches!(symbol, Symbol::Name)
-}
-
-/// A name gets a meaning, where it has none.
-#[tactic(auto, using(crate::proofs::Learning::plain_within))]
+/// A name gets a meaning, also where it had another.
+#[tactic(auto, using(crate::proofs::Learning::name_within))]
 pub fn learn_name(
     alloc: Global,
     text: &[u8],
@@ -216,7 +210,7 @@ pub fn learn_name(
         → IfOk result (λ all. all.items ≡ symbols_in text.now (learned text.now tokens.now known name meaning) tokens.now) }
     ensures full { IfErr result (λ error. error ≡ OutOfMemory) }
 {
-    if !is_plain(symbol_at(&symbols, name)) {
+    if !is_name(symbol_at(&symbols, name)) {
         return Ok(symbols);
     }
     if name as usize >= tokens.len() {
