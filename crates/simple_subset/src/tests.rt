@@ -11,13 +11,6 @@ fn b() -> Formula {
     Formula::Bool(Expr::Whole(1))
 }
 
-fn sequence(strong: bool) -> Formula {
-    Formula::Seq {
-        sere: Sere::Bool(Expr::Whole(0)),
-        strong,
-    }
-}
-
 fn always(alloc: Global, body: Formula) -> Result<Formula, AllocError> {
     Ok(Formula::Always(Subformula::new(alloc, body)?))
 }
@@ -164,22 +157,5 @@ fn operators_take_what_they_may(rt: HostRuntime) -> Result<(), Fail> {
     assert!(rt; check(&Formula::Implies(left, right)) == Ok(()));
     let body = Subformula::new(alloc, always(alloc, a())?)?;
     assert!(rt; check(&Formula::Abort(body, Expr::Whole(1))) == Ok(()));
-    Ok(())
-}
-
-#[test]
-fn never_and_eventually_take_sequences_without_a_mark(rt: HostRuntime) -> Result<(), Fail> {
-    let alloc = rt.alloc();
-    let cases = [
-        (false, Ok(()), Ok(())),
-        (true, Err(Rule { number: 2 }), Err(Rule { number: 3 })),
-    ];
-    for (strong, never, eventually) in cases {
-        assert!(rt; check(&sequence(strong)) == Ok(()));
-        let body = Subformula::new(alloc, sequence(strong))?;
-        assert!(rt; check(&Formula::Never(body)) == never);
-        let body = Subformula::new(alloc, sequence(strong))?;
-        assert!(rt; check(&Formula::Eventually(body)) == eventually);
-    }
     Ok(())
 }
