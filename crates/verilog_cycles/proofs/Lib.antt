@@ -11,5 +11,4 @@ pub mod Ready
 pub mod Shifts
 pub mod Step
 pub mod Trace
-pub mod Unique
 pub mod Wrapping

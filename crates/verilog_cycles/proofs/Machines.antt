@@ -11,7 +11,9 @@ use Rattle.verilog_text.specs.Module.{Module, Register, widths_of}
 use Rattle.verilog_text.specs.Run.{Cycle, values_of, assigned, right_side}
 use Rattle.verilog_text.specs.View.{register_of}
 use Rattle.verilog_text.specs.declared.module.RegDecl.{RegDecl}
-use Rattle.verilog_cycles.specs.Steps.{port_widths, register_widths, IsStep}
+use Rattle.verilog_text.specs.Interface.{port_widths}
+use Rattle.verilog_text.specs.State.{register_widths}
+use Rattle.verilog_cycles.specs.Steps.{IsStep}
 use Rattle.verilog_cycles.specs.declared.nodes.Node.{Node}
 use Rattle.verilog_cycles.specs.inner.Program.{IsProgram, IsLoaded}
 use Rattle.verilog_cycles.proofs.Narrow.{fit_length}
@@ -70,16 +72,16 @@ step_fits m ports eot before after answer s =
     (next_fits m s.cycle)
 
 pub front_is : (m : Module) (first : ℕ) (nodes : List Node) (takes : List ℕ) (fail : ℕ) (ports state : List ℕ) →
-    IsProgram m first nodes takes fail → FitWidths (port_widths m) ports → FitWidths (register_widths m) state →
+    IsProgram m first nodes takes fail → FitWidths (port_widths m.ports) ports → FitWidths (register_widths m) state →
     first ≡ 2 + length ports + length state
 front_is m first nodes takes fail ports state is a b =
     omega (
       arith,
       is.room,
-      fit_length (port_widths m) ports a,
+      fit_length (port_widths m.ports) ports a,
       fit_length (register_widths m) state b,
       length-append
-          (port_widths m) (register_widths m),
+          (port_widths m.ports) (register_widths m),
     )
 
 pub count_is : (m : Module) (first : ℕ) (nodes : List Node) (takes : List ℕ) (fail : ℕ) (state : List ℕ) →

@@ -12,7 +12,9 @@ use Rattle.verilog_text.specs.Module.{Module, Wire, Register, state_widths, widt
 use Rattle.verilog_text.specs.Module.{IsLawful}
 use Rattle.verilog_text.specs.View.{register_of}
 use Rattle.verilog_text.specs.declared.module.RegDecl.{RegDecl}
-use Rattle.verilog_cycles.specs.Steps.{port_widths, register_widths, reset_values}
+use Rattle.verilog_text.specs.Interface.{port_widths}
+use Rattle.verilog_text.specs.State.{register_widths}
+use Rattle.verilog_cycles.specs.Steps.{reset_values}
 
 abbrev pub wire_widths : Module → List ℕ
 wire_widths m = map (λ (w : Wire). w.width) m.wires
@@ -53,7 +55,7 @@ all_get P (y ∷ xs) (suc k) x all at = all_get P xs k x (λ j d below. all (suc
 pub register_at : (m : Module) → IsLawful m → (k : ℕ) (r : Register) → slice_get m.registers k ≡ Some r → IsRegister m r
 register_at m lawful k r at = all_get (IsRegister m) m.registers k r lawful.registers at
 
-ports_narrow : (m : Module) → IsLawful m → All (λ w. w ≤ vector_limit) (port_widths m)
+ports_narrow : (m : Module) → IsLawful m → All (λ w. w ≤ vector_limit) (port_widths m.ports)
 ports_narrow m lawful =
     all_map (λ (p : Signal). p.width) (λ w. w ≤ vector_limit) m.ports (all_than IsPort (λ (p : Signal). p.width ≤
     vector_limit) m.ports (λ p is. is.width.1) lawful.ports)
@@ -70,8 +72,8 @@ wires_narrow m lawful =
 
 pub state_narrow : (m : Module) → IsLawful m → All (λ w. w ≤ vector_limit) (state_widths m)
 state_narrow m lawful =
-    all_append (λ w. w ≤ vector_limit) (1 ∷ 1 ∷ port_widths m) (register_widths m)
-    (all_append (λ w. w ≤ vector_limit) (1 ∷ 1 ∷ []) (port_widths m) ones (ports_narrow m lawful))
+    all_append (λ w. w ≤ vector_limit) (1 ∷ 1 ∷ port_widths m.ports) (register_widths m)
+    (all_append (λ w. w ≤ vector_limit) (1 ∷ 1 ∷ []) (port_widths m.ports) ones (ports_narrow m lawful))
     (registers_narrow m lawful)
   where
     ones : All (λ w. w ≤ vector_limit) (1 ∷ 1 ∷ [])
@@ -109,9 +111,9 @@ fit_small (w ∷ widths) (v ∷ values) all fits zero d lt = let room : 2 ^ w �
 fit_small (w ∷ widths) (v ∷ values) all fits (suc k) d lt = fit_small widths values (λ j e below. all (suc j) e (omega
     arith)) fits.1 k d (omega arith)
 
-pub ports_small : (m : Module) → IsLawful m → (values : List ℕ) → FitWidths (port_widths m) values → All (λ x. x < 2 ^
-    64) values
-ports_small m lawful values fits = fit_small (port_widths m) values (ports_narrow m lawful) fits
+pub ports_small : (m : Module) → IsLawful m → (values : List ℕ) → FitWidths (port_widths m.ports) values →
+    All (λ x. x < 2 ^ 64) values
+ports_small m lawful values fits = fit_small (port_widths m.ports) values (ports_narrow m lawful) fits
 
 initials_fit : (m : Module) (rs : List Register) → All (IsRegister m) rs → FitWidths (map (λ (r : Register). r.width)
     rs) (map (λ (r : Register). r.initial) rs)

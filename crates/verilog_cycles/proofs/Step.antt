@@ -9,7 +9,9 @@ use Rattle.std.specs.Prelude.{max, slice_get, slice_index, ◌==◌}
 use Rattle.psl_model.specs.Value.{bit_of, width_of, value_of, FitWidths}
 use Rattle.verilog_text.specs.Module.{Module, Wire, Register, state_widths, widths_of}
 use Rattle.verilog_text.specs.Run.{Cycle, values_of, assigned, right_side}
-use Rattle.verilog_cycles.specs.Steps.{port_widths, register_widths, IsStep}
+use Rattle.verilog_text.specs.Interface.{port_widths}
+use Rattle.verilog_text.specs.State.{register_widths}
+use Rattle.verilog_cycles.specs.Steps.{IsStep}
 use Rattle.verilog_cycles.specs.declared.nodes.Node.{Node}
 use Rattle.verilog_cycles.specs.inner.Nodes.{Meets}
 use Rattle.verilog_cycles.specs.inner.Ready.{values_at, taken, Begins}
@@ -38,13 +40,13 @@ as_bit zero lt = refl
 as_bit (suc zero) lt = refl
 as_bit (suc (suc x)) lt = absurd (omega arith)
 
-pub state_fits : (m : Module) (eot : Bool) (ports state : List ℕ) → FitWidths (port_widths m) ports →
+pub state_fits : (m : Module) (eot : Bool) (ports state : List ℕ) → FitWidths (port_widths m.ports) ports →
     FitWidths (register_widths m) state → FitWidths (state_widths m) (state_of eot ports state)
 state_fits m eot ports state a b = (
   omega arith,
   (
     bit_small eot,
-    fit_append (port_widths m) (register_widths m) ports
+    fit_append (port_widths m.ports) (register_widths m) ports
         state a b,
   ),
 )
@@ -122,7 +124,7 @@ register_taken m eot ports state wires fail r =
 
 pub step_is : (m : Module) (first : ℕ) (nodes : List Node) (takes : List ℕ) (fail : ℕ) → IsProgram m first nodes takes
     fail →
-    (eot : Bool) (ports state table after : List ℕ) (answer : Bool) → FitWidths (port_widths m) ports →
+    (eot : Bool) (ports state table after : List ℕ) (answer : Bool) → FitWidths (port_widths m.ports) ports →
     FitWidths (register_widths m) state → Begins (state_of eot ports state) table → Meets first nodes table →
     after ≡ map (λ (p : ℕ). slice_index table p) takes → answer ≡ (slice_index table fail == 1) →
     IsStep m ports eot state after answer

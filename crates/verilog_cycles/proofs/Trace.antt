@@ -3,17 +3,15 @@ use Rattle.std.proofs.Common.{◌≡◌, ℕ, suc, ◌%◌, ◌^◌, List, [], �
 use Rattle.std.proofs.Common.{refl, ap, sym}
 use Rattle.std.proofs.Common.{◌∙◌, arith, subst, Bool}
 use Rattle.std.proofs.Math.Nat.{mod-eq_of_lt}
-use Rattle.std.proofs.lemmas.List.{length-append}
 use Rattle.std.specs.Prelude.{All, max, ◌==◌}
 use Rattle.psl_model.specs.Value.{bit_of, width_of, value_of, FitWidths}
 use Rattle.verilog_text.specs.Module.{Module, Register, state_widths, widths_of, IsRegister, IsLawful}
 use Rattle.verilog_text.specs.Run.{Cycle, values_of, assigned, right_side, IsSettled, IsRun, HaveInputs}
 use Rattle.verilog_text.specs.Run.{IsRunFromReset, fail_stream}
-use Rattle.verilog_cycles.specs.Steps.{port_widths, register_widths, reset_values, IsStep, AreSteps}
+use Rattle.verilog_text.specs.Interface.{port_widths}
+use Rattle.verilog_text.specs.State.{HasState, FitsModule}
+use Rattle.verilog_cycles.specs.Steps.{reset_values, IsStep, AreSteps}
 use Rattle.verilog_cycles.proofs.Machines.{next_state, next_fits, after_is}
-use Rattle.verilog_cycles.proofs.Names.{Reads}
-use Rattle.verilog_cycles.proofs.Narrow.{fit_length}
-use Rattle.verilog_cycles.proofs.Unique.{same_cycle}
 
 -- after the cycle of reset the registers have their reset values
 reset_each : (m : Module) (c : Cycle) (rs : List Register) → c.reset ≡ 1 → All (IsRegister m) rs →
@@ -35,9 +33,15 @@ first_settled : (m : Module) (c : Cycle) (cycles : List Cycle) → IsRun m (c �
 first_settled m c [] run = run
 first_settled m c (d ∷ cycles) run = run.0
 
-pub same_fails : Reads → (m : Module) → IsLawful m → (b : Cycle) (inputs : List (List ℕ)) (eots : List Bool) (state :
-    List ℕ)
-    (answers : List Bool) (after : List ℕ) (cycles : List Cycle) → All (FitWidths (port_widths m)) inputs →
+-- no two settled cycles have the same inputs and registers
+abbrev pub OneCycle : Type 0
+OneCycle = (m : Module) → IsLawful m → (reset eot : ℕ) (ports registers : List ℕ) → FitsModule m ports registers →
+    (c d : Cycle) → HasState reset eot ports registers c → HasState reset eot ports registers d →
+    IsSettled m c → IsSettled m d → c ≡ d
+
+pub same_fails : OneCycle → (m : Module) → IsLawful m → (b : Cycle) (inputs : List (List ℕ)) (eots : List Bool)
+    (state : List ℕ) (answers : List Bool) (after : List ℕ) (cycles : List Cycle) →
+    All (FitWidths (port_widths m.ports)) inputs →
     next_state m b ≡ state → AreSteps m inputs eots state answers after → IsRun m (b ∷ cycles) →
     HaveInputs inputs (map bit_of eots) cycles → fail_stream cycles ≡ map bit_of answers
 same_fails law m lawful b [] [] state [] after [] fits next steps run have = refl
@@ -51,31 +55,33 @@ same_fails law m lawful b (v ∷ inputs) (e ∷ eots) state (a ∷ answers) afte
     let between = steps.0 in
     let step = steps.1 in
     let d = step.cycle in
-    let registers : c.registers ≡ d.registers = run.1 ∙ next ∙ sym step.has_registers in
-    let port_count : length c.ports ≡ length (port_widths m) = ap length have.0.ports ∙ fit_length (port_widths m) v
-    (fits 0 v (omega arith)) in
-    let register_count : length c.registers ≡ length (register_widths m) = ap length run.1 ∙ fit_length
-    (register_widths m) (next_state m b) (next_fits m b) in
-    let size : length (c.reset ∷ c.end_of_execution ∷ c.ports ++ c.registers) ≡ length (state_widths m) =
-    omega (
-      arith,
-      length-append c.ports c.registers,
-      length-append (port_widths m) (register_widths m),
-      port_count,
-      register_count,
-    ) in
-    let same : c ≡ d = same_cycle law m lawful c d size
-    (have.0.reset ∙ sym step.has_inputs.reset) (have.0.end_of_execution ∙ sym step.has_inputs.end_of_execution)
-    (have.0.ports ∙ sym step.has_inputs.ports) registers (first_settled m c cycles run.2) step.settled in
+    let state_fits : FitsModule m v (next_state m b) = record {
+      ports = fits 0 v (omega arith);
+      registers = next_fits m b;
+    } in
+    let is_c : HasState 0 (bit_of e) v (next_state m b) c = record {
+      reset = have.0.reset;
+      end_of_execution = have.0.end_of_execution;
+      ports = have.0.ports;
+      registers = run.1;
+    } in
+    let is_d : HasState 0 (bit_of e) v (next_state m b) d = record {
+      reset = step.has_inputs.reset;
+      end_of_execution = step.has_inputs.end_of_execution;
+      ports = step.has_inputs.ports;
+      registers = step.has_registers ∙ sym next;
+    } in
+    let same : c ≡ d = law m lawful 0 (bit_of e) v (next_state m b) state_fits c d is_c is_d
+    (first_settled m c cycles run.2) step.settled in
     let fail : c.fail ≡ bit_of a = ap (λ (x : Cycle). x.fail) same ∙ step.output in
     let then : next_state m c ≡ between = ap (next_state m) same ∙ sym (after_is m v e state between a step) in
     let rest = same_fails law m lawful c inputs eots between answers after cycles (λ k x lt. fits (suc k) x (omega
     arith)) then steps.2 run.2 have.1 in
     λ i. fail i ∷ rest i
 
-pub stream_is : Reads → (m : Module) → IsLawful m → (inputs : List (List ℕ)) (eots : List Bool) (answers : List Bool)
-    (after : List ℕ) →
-    All (FitWidths (port_widths m)) inputs → AreSteps m inputs eots (reset_values m) answers after →
+pub stream_is : OneCycle → (m : Module) → IsLawful m → (inputs : List (List ℕ)) (eots : List Bool)
+    (answers : List Bool) (after : List ℕ) →
+    All (FitWidths (port_widths m.ports)) inputs → AreSteps m inputs eots (reset_values m) answers after →
     (reset : Cycle) (cycles : List Cycle) → IsRunFromReset m inputs (map bit_of eots) reset cycles →
     fail_stream cycles ≡ map bit_of answers
 stream_is law m lawful inputs eots answers after fits steps reset cycles run =

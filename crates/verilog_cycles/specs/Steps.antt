@@ -3,16 +3,9 @@
 --     AreSteps m inputs eots before answers after  such a cycle for each of the inputs, one after the other
 -- `before` and `after` are the values of the registers.
 use Rattle.std.specs.Prelude.{◌≡◌, ℕ, Bool, List, [], ◌∷◌, map}
-use Rattle.psl_model.specs.declared.names.Signal.{Signal}
 use Rattle.psl_model.specs.Value.{bit_of}
 use Rattle.verilog_text.specs.Module.{Module, Register}
 use Rattle.verilog_text.specs.Run.{Cycle, IsSettled, Follows, HasInputs}
-
-abbrev pub port_widths : Module → List ℕ
-port_widths m = map (λ (p : Signal). p.width) m.ports
-
-abbrev pub register_widths : Module → List ℕ
-register_widths m = map (λ (r : Register). r.width) m.registers
 
 -- the values of the registers after reset
 abbrev pub reset_values : Module → List ℕ

@@ -5,7 +5,9 @@ ghost use Rattle.verilog_text.specs.Module as plain;
 ghost use Rattle.verilog_text.specs.Module.{IsLawful};
 ghost use Rattle.verilog_text.specs.Run.{FitWidths};
 ghost use Rattle.verilog_text.specs.View.{module_of};
-ghost use Rattle.verilog_cycles.specs.Steps.{IsStep, port_widths, register_widths, reset_values};
+ghost use Rattle.verilog_text.specs.Interface.{port_widths};
+ghost use Rattle.verilog_text.specs.State.{register_widths};
+ghost use Rattle.verilog_cycles.specs.Steps.{IsStep, reset_values};
 
 use crate::cycles::{put_initial, run};
 use crate::program::Program;
@@ -71,7 +73,7 @@ impl Machine {
     /// Runs one cycle without reset and gives `mbac_fail`. There is a value for each port, in their order, and `eot` is
     /// `mbac_eot`.
     pub fn step(&mut self, values: &[u128], eot: bool) -> bool
-        requires { FitWidths (port_widths (module_of self.old.loaded)) values.now }
+        requires { FitWidths (port_widths (module_of self.old.loaded).ports) values.now }
         ensures module { self.new.loaded ≡ self.old.loaded }
         ensures step { IsStep (module_of self.old.loaded) values.now eot
             self.old.registers self.new.registers result }

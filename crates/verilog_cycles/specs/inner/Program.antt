@@ -4,7 +4,7 @@
 use Rattle.std.specs.Prelude.{◌≡◌, ℕ, ◌<◌, List, length, slice_index, slice_get, Some, All}
 use Rattle.psl_model.specs.Value.{FitWidths}
 use Rattle.verilog_text.specs.Module.{Module, Register, state_widths, widths_of, IsLawful}
-use Rattle.verilog_cycles.specs.Steps.{register_widths}
+use Rattle.verilog_text.specs.State.{register_widths}
 use Rattle.verilog_cycles.specs.declared.nodes.Node.{Node}
 use Rattle.verilog_cycles.specs.inner.Nodes.{Meets}
 use Rattle.verilog_cycles.specs.inner.Ready.{values_at, taken, AreWires}

@@ -1,7 +1,7 @@
 use Rattle.std.proofs.Common.{◌≡◌, ℕ, List, length, sym, subst, rules}
 use Rattle.psl_model.specs.Value.{FitWidths}
 use Rattle.verilog_text.specs.View.{module_of}
-use Rattle.verilog_cycles.specs.Steps.{register_widths}
+use Rattle.verilog_text.specs.State.{register_widths}
 use Rattle.verilog_cycles.proofs.Narrow.{zeroes_fit, zeroes_are}
 use Rattle.verilog_cycles.proofs.machine.Machine.load.Goals as goal
 

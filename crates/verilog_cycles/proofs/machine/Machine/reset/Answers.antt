@@ -6,7 +6,8 @@ use Rattle.verilog_text.specs.Module.{Register}
 use Rattle.verilog_text.specs.View.{module_of, register_of}
 use Rattle.verilog_text.specs.declared.module.RegDecl.{RegDecl}
 use Rattle.verilog_cycles.specs.State.{State}
-use Rattle.verilog_cycles.specs.Steps.{register_widths, reset_values}
+use Rattle.verilog_text.specs.State.{register_widths}
+use Rattle.verilog_cycles.specs.Steps.{reset_values}
 use Rattle.verilog_cycles.proofs.Narrow.{fit_length, initial_fits, initials_small}
 use Rattle.verilog_cycles.proofs.Machines.{initials, initials_each, loaded_on}
 use Rattle.verilog_cycles.proofs.machine.Machine.reset.Goals as goal

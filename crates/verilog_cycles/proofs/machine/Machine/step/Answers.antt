@@ -3,7 +3,9 @@ use Rattle.std.proofs.lemmas.List.{with_items_is}
 use Rattle.psl_model.specs.Value.{FitWidths}
 use Rattle.verilog_text.specs.View.{module_of}
 use Rattle.verilog_cycles.specs.State.{State}
-use Rattle.verilog_cycles.specs.Steps.{port_widths, register_widths, IsStep}
+use Rattle.verilog_text.specs.Interface.{port_widths}
+use Rattle.verilog_text.specs.State.{register_widths}
+use Rattle.verilog_cycles.specs.Steps.{IsStep}
 use Rattle.verilog_cycles.specs.inner.Ready.{Begins}
 use Rattle.verilog_cycles.proofs.Narrow.{ports_small}
 use Rattle.verilog_cycles.proofs.Step.{state_of, step_is}
@@ -14,8 +16,9 @@ pub run-requires-clause-front : goal.run-requires-clause-front
 run-requires-clause-front c =
     let m = module_of c.self.inside.checker in
     let p = c.self.inside.program in
-    let fits : FitWidths (port_widths m) c.args.values.now = subst (λ (s : State). FitWidths (port_widths (module_of
-    s.loaded)) c.args.values.now) (sym c.self.view_is) c.requires in
+    let fits : FitWidths (port_widths m.ports) c.args.values.now =
+    subst (λ (s : State). FitWidths (port_widths (module_of s.loaded).ports) c.args.values.now) (sym c.self.view_is)
+    c.requires in
     let front = front_is m p.first p.nodes.items p.nexts.items p.fail c.args.values.now c.self.inside.state.items
     c.self.invariant.program fits c.self.invariant.registers_fit in
     omega (arith, front, ap length c.deref_mut-2.ensures.value)
@@ -32,7 +35,7 @@ pub run-requires-clause-small : goal.run-requires-clause-small
 run-requires-clause-small c =
     let m = module_of c.self.inside.checker in
     ports_small m c.self.invariant.lawful c.args.values.now
-    (subst (λ (s : State). FitWidths (port_widths (module_of s.loaded)) c.args.values.now) (sym c.self.view_is)
+    (subst (λ (s : State). FitWidths (port_widths (module_of s.loaded).ports) c.args.values.now) (sym c.self.view_is)
     c.requires)
 
 abbrev the_step : (c : goal.After-self-2-1) →
@@ -41,8 +44,9 @@ abbrev the_step : (c : goal.After-self-2-1) →
 the_step c =
     let m = module_of c.self.inside.checker in
     let p = c.self.inside.program in
-    let fits : FitWidths (port_widths m) c.args.values.now = subst (λ (s : State). FitWidths (port_widths (module_of
-    s.loaded)) c.args.values.now) (sym c.self.view_is) c.requires in
+    let fits : FitWidths (port_widths m.ports) c.args.values.now =
+    subst (λ (s : State). FitWidths (port_widths (module_of s.loaded).ports) c.args.values.now) (sym c.self.view_is)
+    c.requires in
     let begins : Begins (state_of c.args.eot c.args.values.now c.self.inside.state.items) c.run.new.table =
     subst (λ s. Begins (state_of c.args.eot c.args.values.now s) c.run.new.table) c.deref_mut-2.ensures.value
     c.run.ensures.begins in
