@@ -1,0 +1,11 @@
+pub mod Codes
+pub mod Names
+pub mod Numbers
+pub mod Words
+pub mod Tokens
+pub mod Context
+pub mod Phrases
+pub mod Telling
+pub mod Sound
+pub mod Stream
+pub mod inner

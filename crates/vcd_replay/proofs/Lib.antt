@@ -1,0 +1,11 @@
+mod RowLemmas
+mod Fronts
+mod Walking
+mod Tables
+mod Sampled
+mod PortLists
+mod Skipped
+mod Answered
+mod Extension
+mod FirstFails
+mod FittingRows

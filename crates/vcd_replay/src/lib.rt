@@ -1,0 +1,16 @@
+//! Samples waveforms at the edges of a clock, and tells where modules fail on such traces.
+#![tactic(auto)]
+
+mod edges;
+mod laws;
+mod ports;
+mod samples;
+mod sampling;
+mod trace;
+mod values;
+mod verdicts;
+
+pub use laws::{extension_keeps_numbers, sampled_rows_fit, values_are_determined};
+pub use sampling::sample;
+pub use trace::{SampleError, Trace};
+pub use verdicts::first_fail;

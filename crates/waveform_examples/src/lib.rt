@@ -1,0 +1,16 @@
+//! Waveforms that simulators wrote, and others written by hand: read whole and in pieces, sampled, and checked. It
+//! stands apart from the crates that it tries, so that those above them aren't proved with it.
+#![tactic(auto)]
+
+#[cfg(test)]
+mod dumps;
+#[cfg(test)]
+mod faults;
+#[cfg(test)]
+mod names;
+#[cfg(test)]
+mod pieces;
+#[cfg(test)]
+mod samples;
+#[cfg(test)]
+mod verdicts;
