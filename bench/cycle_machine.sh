@@ -9,6 +9,8 @@ room=$(mktemp -d)
 trap 'rm -rf "$room"' EXIT
 cp -r "$top/." "$room"
 cp -r "$top/bench/cycle_machine" "$room/crates/machine_bench"
+# Sources of Rattle may stand in crates alone, so they lie here as texts.
+find "$room/crates/machine_bench" -name '*.txt' -exec sh -c 'mv "$1" "${1%.txt}"' _ {} \;
 mv "$room/crates/machine_bench/bench.v" "$room/crates/machine_bench/bench.cpp" "$room"
 echo 'machine_bench: psl_model circuit_core verilog_text verilog_cycles anyhow' >> "$room/crates.txt"
 cycles=2000

@@ -1,3 +1,2 @@
 pub mod Streams
 pub mod Joining
-pub mod Bits

@@ -13,7 +13,7 @@ ghost use Rattle.verilog_text.specs.View.{module_of};
 ghost use Rattle.worked_checks.specs.Ports.{counter};
 
 use crate::ports::{called, ports, the_counter_is_a_port};
-use checked_modules::checker_of;
+use mbac_compile::checker_of;
 use property_circuits::CircuitError;
 use psl_model::{BinOp, Expr, Subexpr, UnOp};
 use psl_rewrite::{Base, Subbase};

@@ -16,7 +16,7 @@ ghost use Rattle.property_circuits.specs.declared.circuits.CircuitError.TheVaria
 ghost use Rattle.checker_meaning.specs.Checks.{Checks};
 ghost use Rattle.checked_modules.specs.Readings.{ReadsAs};
 
-use crate::a_module_of_a_checking_netlist_checks;
+use checked_modules::a_module_of_a_checking_netlist_checks;
 use property_circuits::{CircuitError, check_circuit};
 use psl_model::{Name, Signal};
 use psl_rewrite::Base;

@@ -4,8 +4,8 @@ use Rattle.psl_rewrite.specs.Meaning.{named}
 use Rattle.circuit_meaning.specs.Checks as circuit
 use Rattle.verilog_text.specs.View.{module_of}
 use Rattle.checked_modules.specs.Readings.{ReadsAs}
-use Rattle.checked_modules.proofs.Bits.{same_bits, ports_have_widths}
-use Rattle.checked_modules.proofs.checkers.checker_of.Goals as goal
+use Rattle.mbac_compile.proofs.Bits.{same_bits, ports_have_widths}
+use Rattle.mbac_compile.proofs.checkers.checker_of.Goals as goal
 
 pub check_circuit-requires-clause-widths : goal.check_circuit-requires-clause-widths
 check_circuit-requires-clause-widths c =
