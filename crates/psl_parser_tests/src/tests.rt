@@ -50,7 +50,10 @@ fn fault_of(alloc: Global, text: &[u8]) -> Option<ParseError> {
     if text.len() > 1_048_576 {
         return Some(ParseError::OutOfMemory);
     }
-    tree_of(alloc, text).err()
+    match tree_of(alloc, text) {
+        Ok(_) => None,
+        Err(error) => Some(error),
+    }
 }
 
 // The bytes one behind the other.

@@ -37,26 +37,25 @@ fn deep(alloc: Global, opens: &[u8], count: usize, closes: &[u8]) -> Option<Pars
 
 #[test]
 fn a_token_stands_in_64_open_phrases_at_most(rt: HostRuntime) {
-    for (opens, closes, token) in [
-        (b"(".as_slice(), b")".as_slice(), 69),
-        (b"{", b"}", 69),
-        (b"!", b"", 69),
-        (b"~ ", b"", 69),
-        (b"always ", b"", 69),
-        (b"eventually! ", b"", 69),
-        (b"next ", b"", 69),
-        (b"next![2] ", b"", 264),
-        (b"next_event(b) ", b"", 262),
-        (b"a ? b : ", b"", 262),
-        (b"a -> ", b"", 134),
-        (b"{a} |-> ", b"", 261),
-        (b"!(", b")", 69),
+    for (opens, closes, most, more, token) in [
+        (b"(".as_slice(), b")".as_slice(), 64, 65, 69),
+        (b"{", b"}", 64, 65, 69),
+        (b"!", b"", 64, 65, 69),
+        (b"~ ", b"", 64, 65, 69),
+        (b"always ", b"", 64, 65, 69),
+        (b"eventually! ", b"", 64, 65, 69),
+        (b"next ", b"", 64, 65, 69),
+        (b"next![2] ", b"", 64, 65, 264),
+        (b"next_event(b) ", b"", 64, 65, 262),
+        (b"a ? b : ", b"", 64, 65, 262),
+        (b"a -> ", b"", 64, 65, 134),
+        (b"{a} |-> ", b"", 64, 65, 261),
+        (b"!(", b")", 32, 33, 69),
     ] {
         let fault = ParseError::TooDeep { token };
-        let most = if opens == b"!(" { 32 } else { 64 };
         assert_eq!(rt; deep(rt.alloc(), opens, most, closes), None, "{opens:?}");
         assert_eq!(rt;
-            deep(rt.alloc(), opens, most + 1, closes),
+            deep(rt.alloc(), opens, more, closes),
             Some(fault),
             "{opens:?}"
         );

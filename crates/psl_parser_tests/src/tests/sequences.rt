@@ -82,7 +82,7 @@ fn what_is_no_sequence_is_refused(rt: HostRuntime) {
         (b"{a[*2:]}", 21),
         (b"{a within}", 19),
         (b"{always a}", 17),
-        (b"{a", 18),
+        (b"{a", 19),
     ] {
         assert!(rt; stops_at(rt.alloc(), text, token), "{text:?}");
     }

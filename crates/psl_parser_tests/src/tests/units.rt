@@ -1,6 +1,6 @@
 //! Items and units.
 
-use super::{fault_of, unit_gives};
+use super::{fault_of, joined, unit_gives};
 use psl_lexer::{Token, tokens};
 use psl_parser::ParseError;
 use std::alloc::Global;
@@ -65,29 +65,33 @@ fn what_is_no_unit_is_refused(rt: HostRuntime) {
     }
 }
 
-// How many tokens a text has, from the first one on, before one at which the parser doesn't stop where the text is cut
-// off there.
-fn cut_off(alloc: Global, text: &[u8], found: &[Token]) -> u32 {
+// Whether the parser stops at the end of the text where it is cut off before any of its tokens.
+fn stops_at_each_end(alloc: Global, text: &[u8], found: &[Token]) -> bool {
     let mut number = 0;
     for token in found {
         let start = token.start as usize;
         if text.len() < start || number == u32::MAX {
-            return number;
+            return false;
         }
         if fault_of(alloc, &text[0..start]) != Some(ParseError::Syntax { token: number }) {
-            return number;
+            return false;
         }
         number += 1;
     }
-    number
+    true
 }
 
 #[test]
 fn a_unit_that_is_cut_off_is_refused_at_its_end(rt: HostRuntime) -> Result<(), Fail> {
-    let text =
-        b"vunit u (m) { default clock = (posedge c); wire [3:0] x, y; sequence s = {a;x[3]==1[*2:inf]}; property p = never {s|a}; L: assert always (a -> next_event(b)[2] !p until! y[3:0] ? c : d abort b) report \"t\"; }";
-    let found = tokens(rt.alloc(), text)?;
-    assert_eq!(rt; cut_off(rt.alloc(), text, &found), found.len() as u32);
-    assert_eq!(rt; fault_of(rt.alloc(), text), None);
+    let text = joined(
+        rt.alloc(),
+        b"vunit u (m) { default clock = (posedge c); wire [3:0] x, y; sequence s = {a;x[3]==1[*2:inf]};",
+        b" property p = never {s|a}; L: assert always (a -> next_event(b)[2] !p until! y[3:0] ? c : d",
+        b" abort b) report \"t\"; }",
+    )?;
+    assert!(rt; text.len() < 1000);
+    let found = tokens(rt.alloc(), &text)?;
+    assert!(rt; stops_at_each_end(rt.alloc(), &text, &found));
+    assert_eq!(rt; fault_of(rt.alloc(), &text), None);
     Ok(())
 }
