@@ -1,6 +1,6 @@
 -- Where a token may be too deep. A token that stands in 65 open phrases has as many tokens before it that opened them,
 -- besides the `{` of the unit; and the 2,049th token of an item has as many before it, besides the unit's head.
-use Rattle.std.specs.Prelude.{ℕ, ◌+◌, ◌<◌, ◌≤◌, ◌⊎◌, Bool, true, false, List, take, count_by}
+use Rattle.std.specs.Prelude.{ℕ, ◌+◌, ◌<◌, ◌≤◌, ◌⊎◌, Bool, true, false, List, slice_range, count_by}
 use Rattle.psl_grammar.specs.declared.symbols.Symbol.{Symbol}
 use Rattle.psl_grammar.specs.declared.symbols.Symbol.TheVariants.{OpenParenthesis, OpenBrace, Exclamation, Tilde, And}
 use Rattle.psl_grammar.specs.declared.symbols.Symbol.TheVariants.{Caret, Or, Always, EventuallyStrong, Next}
@@ -31,7 +31,7 @@ may_open _ = false
 
 -- how many tokens before a place may open a phrase
 abbrev pub openers : List Symbol → (place : ℕ) → ℕ
-openers symbols place = count_by may_open (take place symbols)
+openers symbols place = count_by may_open (slice_range symbols 0 place)
 
 abbrev pub MayBeTooDeep : List Symbol → (place : ℕ) → Type 0
 MayBeTooDeep symbols place = (open_phrases_limit + 1 < openers symbols place) ⊎ (item_limit + 3 ≤ place)

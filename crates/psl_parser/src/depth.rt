@@ -1,12 +1,12 @@
 //! Where a token may be too deep.
 
-ghost use Rattle.std.specs.Prelude.{◌≡◌, ◌≤◌, ◌↔◌, IsTrue, length};
-ghost use Rattle.psl_parser.specs.Depth.{may_open, openers, MayBeTooDeep};
+ghost use Rattle.std.specs.Prelude.{◌≡◌, ◌≤◌, ◌↔◌, IsTrue, length, count_by};
+ghost use Rattle.psl_parser.specs.Depth.{may_open, MayBeTooDeep};
 
 use psl_grammar::Symbol;
 
 /// In how many open phrases a token may stand, and the `{` of the unit.
-const OPENERS: u32 = 65;
+const OPENERS: usize = 65;
 
 /// How many tokens an item other than `wire` may have, and the head of a unit.
 const TOKENS: u32 = 2051;
@@ -35,18 +35,10 @@ fn may_open(symbol: Symbol) -> bool
     )
 }
 
-/// How many symbols before a place may open a phrase.
-fn openers_before(symbols: &[Symbol], place: u32) -> u32
-    requires within { place ≤ length symbols.now }
-    ensures { result ≡ openers symbols.now place }
+fn openers_in(symbols: &[Symbol]) -> usize
+    ensures { result ≡ count_by may_open symbols.now }
 {
-    let mut count = 0;
-    'places: for i in 0..place {
-        if may_open(symbols[i as usize]) {
-            count += 1;
-        }
-    }
-    count
+    symbols.iter().filter(|symbol| may_open(**symbol)).count()
 }
 
 /// Whether the token at a place may be too deep.
@@ -54,5 +46,5 @@ pub fn may_be_too_deep(symbols: &[Symbol], place: u32) -> bool
     requires within { place ≤ length symbols.now }
     ensures { IsTrue result ↔ MayBeTooDeep symbols.now place }
 {
-    TOKENS <= place || OPENERS < openers_before(symbols, place)
+    TOKENS <= place || OPENERS < openers_in(&symbols[..place as usize])
 }
