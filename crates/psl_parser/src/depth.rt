@@ -1,7 +1,8 @@
 //! Where a token may be too deep.
 
 ghost use Rattle.std.specs.Prelude.{◌≡◌, ◌≤◌, ◌↔◌, IsTrue, length, count_by};
-ghost use Rattle.psl_parser.specs.Depth.{may_open, MayBeTooDeep};
+ghost use Rattle.psl_grammar.specs.Symbols.{symbol_at};
+ghost use Rattle.psl_parser.specs.Depth.{may_open, may_begin, MayBeTooDeep};
 
 use psl_grammar::Symbol;
 
@@ -35,10 +36,47 @@ fn may_open(symbol: Symbol) -> bool
     )
 }
 
+fn may_begin(symbol: Symbol) -> bool
+    ensures { result ≡ may_begin symbol }
+{
+    matches!(
+        symbol,
+        Symbol::Name
+            | Symbol::SequenceName
+            | Symbol::PropertyName
+            | Symbol::Number
+            | Symbol::Literal
+            | Symbol::RepeatOpen
+            | Symbol::RepeatPlus
+            | Symbol::OpenParenthesis
+            | Symbol::OpenBrace
+            | Symbol::Exclamation
+            | Symbol::Tilde
+            | Symbol::And
+            | Symbol::Caret
+            | Symbol::Or
+            | Symbol::Always
+            | Symbol::EventuallyStrong
+            | Symbol::Next
+            | Symbol::NextRange
+            | Symbol::Event
+            | Symbol::EventRange
+    )
+}
+
 fn openers_in(symbols: &[Symbol]) -> usize
     ensures { result ≡ count_by may_open symbols.now }
 {
     symbols.iter().filter(|symbol| may_open(**symbol)).count()
+}
+
+fn begins_at(symbols: &[Symbol], place: u32) -> bool
+    ensures { result ≡ may_begin (symbol_at symbols.now place) }
+{
+    match symbols.get(place as usize) {
+        Some(symbol) => may_begin(*symbol),
+        None => false,
+    }
 }
 
 /// Whether the token at a place may be too deep.
@@ -46,5 +84,8 @@ pub fn may_be_too_deep(symbols: &[Symbol], place: u32) -> bool
     requires within { place ≤ length symbols.now }
     ensures { IsTrue result ↔ MayBeTooDeep symbols.now place }
 {
-    TOKENS <= place || OPENERS < openers_in(&symbols[..place as usize])
+    if TOKENS <= place {
+        return true;
+    }
+    begins_at(symbols, place) && OPENERS < openers_in(&symbols[..place as usize])
 }

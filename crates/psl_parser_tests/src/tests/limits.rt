@@ -63,6 +63,16 @@ fn a_token_stands_in_64_open_phrases_at_most(rt: HostRuntime) {
 }
 
 #[test]
+fn where_no_phrase_begins_depth_is_no_fault(rt: HostRuntime) -> Result<(), Fail> {
+    let fault = ParseError::Syntax { token: 69 };
+    for middle in [b"".as_slice(), b")", b"+ a"] {
+        let text = long(rt.alloc(), b"assert ", b"(", 65, middle, b"")?;
+        assert_eq!(rt; fault_of(rt.alloc(), &text), Some(fault), "{middle:?}");
+    }
+    Ok(())
+}
+
+#[test]
 fn an_item_has_2048_tokens_at_most(rt: HostRuntime) -> Result<(), Fail> {
     let alloc = rt.alloc();
     let text = long(alloc, b"assert !a", b" + a", 1022, b"", b"")?;
