@@ -9,23 +9,44 @@ ghost use Rattle.psl_parser.specs.Depth.{IsToldRightly};
 ghost use Rattle.unit_reader.specs.declared.errors.ParseError.TheVariants.{OutOfMemory};
 
 use crate::depth::may_be_too_deep;
-use psl_grammar::RawUnit;
+use psl_grammar::{RawUnit, Symbol};
 use psl_lexer::Token;
 use std::alloc::Global;
 use unit_reader::{ParseError, classify, read_unit};
 
 /// A fault of depth at a token, or one of syntax where the token can't be too deep.
+fn fault_at(symbols: &[Symbol], token: u32) -> ParseError
+    ensures { IsToldRightly symbols.now result }
+{
+    if token as usize > symbols.len() {
+        return ParseError::Syntax { token };
+    }
+    if may_be_too_deep(symbols, token) {
+        return ParseError::TooDeep { token };
+    }
+    ParseError::Syntax { token }
+}
+
+/// The same for the tokens of a text.
+#[tactic(auto, using(crate::proofs::Told::told_as))]
 fn told_at(alloc: Global, text: &[u8], tokens: &[Token], token: u32) -> ParseError
     ensures { IsToldRightly (outside text.now tokens.now) result }
 {
     match classify(alloc, tokens) {
         Err(_) => ParseError::OutOfMemory,
-        Ok(symbols) => {
-            if (token as usize) <= symbols.len() && may_be_too_deep(&symbols, token) {
-                return ParseError::TooDeep { token };
-            }
-            ParseError::Syntax { token }
-        }
+        Ok(symbols) => fault_at(&symbols, token),
+    }
+}
+
+/// A fault as it is told.
+fn told(alloc: Global, text: &[u8], tokens: &[Token], error: ParseError) -> ParseError
+    ensures memory { error ≡ OutOfMemory → result ≡ OutOfMemory }
+    ensures deep { IsToldRightly (outside text.now tokens.now) result }
+{
+    match error {
+        ParseError::TooDeep { token } => told_at(alloc, text, tokens, token),
+        ParseError::Syntax { token } => ParseError::Syntax { token },
+        ParseError::OutOfMemory => ParseError::OutOfMemory,
     }
 }
 
@@ -42,8 +63,6 @@ pub fn parse_unit(alloc: Global, text: &[u8], tokens: &[Token]) -> Result<RawUni
 {
     match read_unit(alloc, text, tokens) {
         Ok(unit) => Ok(unit),
-        Err(ParseError::TooDeep { token }) => Err(told_at(alloc, text, tokens, token)),
-        Err(ParseError::Syntax { token }) => Err(ParseError::Syntax { token }),
-        Err(ParseError::OutOfMemory) => Err(ParseError::OutOfMemory),
+        Err(error) => Err(told(alloc, text, tokens, error)),
     }
 }
