@@ -40,7 +40,8 @@ pub data IsItem (symbols : List Symbol) : RawItem → (from to : ℕ) → Type 0
       → At symbols (i + 3) symbol.Posedge → AnyName symbols (i + 4) → At symbols (i + 5) symbol.Semicolon
       → IsItem symbols (raw.clock (i + 4)) i (i + 6)
   -- "default" "clock" "=" "(" "posedge" name ")" ";"
-  clock_parens : {i : ℕ} → At symbols i symbol.Default → At symbols (i + 1) symbol.Clock → At symbols (i + 2) symbol.Equal
+  clock_parens : {i : ℕ} → At symbols i symbol.Default → At symbols (i + 1) symbol.Clock
+      → At symbols (i + 2) symbol.Equal
       → At symbols (i + 3) symbol.OpenParenthesis → At symbols (i + 4) symbol.Posedge → AnyName symbols (i + 5)
       → At symbols (i + 6) symbol.CloseParenthesis → At symbols (i + 7) symbol.Semicolon
       → IsItem symbols (raw.clock (i + 5)) i (i + 8)

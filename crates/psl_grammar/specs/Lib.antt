@@ -9,4 +9,8 @@ pub mod ExprGrammar
 pub mod SereGrammar
 pub mod PropGrammar
 pub mod ItemGrammar
+pub mod Units
+pub mod TokenOrder
+pub mod TreeNames
+pub mod DeclaredNames
 pub mod inner

@@ -1,11 +1,12 @@
 -- Which symbols spell a property: one rule for each line of the grammar.
---     IsProp symbols room phrase p from to    the symbols from `from` up to `to` spell p as such a phrase; in it no token
---                                             stands in more than `room` open phrases
+--     IsProp symbols room phrase p from to    the symbols from `from` up to `to` spell p as such a phrase; in it no
+--                                             token stands in more than `room` open phrases
 use Rattle.std.specs.Prelude.{◌≡◌, ℕ, suc, ◌+◌, Bool, true, false, List, Option, Some, None}
 use Rattle.psl_grammar.specs.declared.symbols.Symbol.{Symbol}
 use Rattle.psl_grammar.specs.declared.symbols.Symbol.TheVariants.{Number, Colon, OpenParenthesis, CloseParenthesis}
 use Rattle.psl_grammar.specs.declared.symbols.Symbol.TheVariants.{OpenBracket, CloseBracket, PropertyName, Exclamation}
-use Rattle.psl_grammar.specs.declared.symbols.Symbol.TheVariants.{AndAnd, OrOr, Abort, EventuallyStrong, Next, NextRange}
+use Rattle.psl_grammar.specs.declared.symbols.Symbol.TheVariants.{AndAnd, OrOr, Abort, EventuallyStrong, Next}
+use Rattle.psl_grammar.specs.declared.symbols.Symbol.TheVariants.{NextRange}
 use Rattle.psl_grammar.specs.declared.symbols.Symbol.TheVariants.{Event, EventRange, Until, Suffix, Arrow, DoubleArrow}
 use Rattle.psl_grammar.specs.declared.symbols.Symbol.TheVariants.{Always}
 use Rattle.psl_grammar.specs.RawExpr.{RawExpr}
@@ -108,7 +109,8 @@ pub data IsProp (symbols : List Symbol) : (room : ℕ) → Phrase → RawProp �
       → IsProp symbols room both r (m + 1) j → are_bool l r ≡ false
       → IsProp symbols room either (raw.binary m l r) i j
   -- hdl
-  hdl_bool : {room : ℕ} {e : RawExpr} {i j : ℕ} → IsExpr symbols room 10 e i j → IsProp symbols room hdl (raw.bool e) i j
+  hdl_bool : {room : ℕ} {e : RawExpr} {i j : ℕ} → IsExpr symbols room 10 e i j
+      → IsProp symbols room hdl (raw.bool e) i j
   hdl_either : {room : ℕ} {p : RawProp} {i j : ℕ} → IsProp symbols room either p i j → IsProp symbols room hdl p i j
   -- low = bool rep { rep } [ "!" ] | hdl
   low_timed : {room : ℕ} {s : RawSere} {mark : ℕ} {low_count high_count : Option ℕ} {i j : ℕ}

@@ -60,5 +60,6 @@ pub data IsSere (symbols : List Symbol) : (room level : ℕ) → RawSere → (fr
 -- seq, outside braces: with a bool at least one repetition
 pub data IsSeq (symbols : List Symbol) (room : ℕ) : RawSere → (from to : ℕ) → Type 0 where
   tight : {s : RawSere} {i j : ℕ} → IsSere symbols room 0 s i j → IsSeq symbols room s i j
-  timed : {s : RawSere} {mark : ℕ} {low high : Option ℕ} {i j : ℕ} → IsTimed symbols room false (repeat s mark low high) i j
+  timed : {s : RawSere} {mark : ℕ} {low high : Option ℕ} {i j : ℕ}
+      → IsTimed symbols room false (repeat s mark low high) i j
       → IsSeq symbols room (repeat s mark low high) i j

@@ -1,7 +1,8 @@
 -- Symbols by their place, and what each of them does in a phrase.
 use Rattle.std.specs.Prelude.{◌≡◌, ℕ, ◌+◌, Bool, true, false, ◌&&◌, cond, List, slice_index_or}
 use Rattle.psl_grammar.specs.declared.symbols.Symbol.{Symbol}
-use Rattle.psl_grammar.specs.declared.symbols.Symbol.TheVariants.{End, Name, SequenceName, PropertyName, Number, Literal}
+use Rattle.psl_grammar.specs.declared.symbols.Symbol.TheVariants.{End, Name, SequenceName, PropertyName, Number}
+use Rattle.psl_grammar.specs.declared.symbols.Symbol.TheVariants.{Literal}
 use Rattle.psl_grammar.specs.declared.symbols.Symbol.TheVariants.{Inf, OpenBracket, OpenBrace, RepeatOpen, RepeatPlus}
 use Rattle.psl_grammar.specs.declared.symbols.Symbol.TheVariants.{GotoOpen, EqualRepeatOpen, Colon, Semicolon, Within}
 use Rattle.psl_grammar.specs.declared.symbols.Symbol.TheVariants.{Question, Exclamation, Tilde, Sum, Shift, Order}

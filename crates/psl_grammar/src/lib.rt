@@ -3,6 +3,7 @@
 
 mod expressions;
 mod items;
+pub mod laws;
 mod properties;
 mod sequences;
 mod symbols;

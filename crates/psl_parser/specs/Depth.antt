@@ -1,0 +1,72 @@
+-- Where a token may be too deep. The first one that stands in 65 open phrases begins a phrase and has as many tokens
+-- before it that opened them, besides the `{` of the unit; and the 2,049th token of an item has 2,048 before it, besides
+-- the unit's head.
+use Rattle.std.specs.Prelude.{ℕ, ◌+◌, ◌<◌, ◌≤◌, ◌⊎◌, Bool, true, false, List, slice_range, count_by, IsTrue}
+use Rattle.psl_grammar.specs.declared.symbols.Symbol.{Symbol}
+use Rattle.psl_grammar.specs.declared.symbols.Symbol.TheVariants.{OpenParenthesis, OpenBrace, Exclamation, Tilde, And}
+use Rattle.psl_grammar.specs.declared.symbols.Symbol.TheVariants.{Caret, Or, Always, EventuallyStrong, Next}
+use Rattle.psl_grammar.specs.declared.symbols.Symbol.TheVariants.{NextRange, Event, EventRange, Question, Arrow, Suffix}
+use Rattle.psl_grammar.specs.declared.symbols.Symbol.TheVariants.{Name, SequenceName, PropertyName, Number, Literal}
+use Rattle.psl_grammar.specs.declared.symbols.Symbol.TheVariants.{RepeatOpen, RepeatPlus}
+use Rattle.psl_grammar.specs.Symbols.{symbol_at}
+use Rattle.psl_grammar.specs.ItemGrammar.{open_phrases_limit, item_limit}
+use Rattle.unit_reader.specs.declared.errors.ParseError.{ParseError}
+use Rattle.unit_reader.specs.declared.errors.ParseError.TheVariants.{TooDeep}
+
+-- the symbols that open a phrase in some place
+abbrev pub may_open : Symbol → Bool
+may_open OpenParenthesis = true
+may_open OpenBrace = true
+may_open Exclamation = true
+may_open Tilde = true
+may_open And = true
+may_open Caret = true
+may_open Or = true
+may_open Always = true
+may_open EventuallyStrong = true
+may_open Next = true
+may_open NextRange = true
+may_open Event = true
+may_open EventRange = true
+may_open Question = true
+may_open Arrow = true
+may_open Suffix = true
+may_open _ = false
+
+-- how many tokens before a place may open a phrase
+abbrev pub openers : List Symbol → (place : ℕ) → ℕ
+openers symbols place = count_by may_open (slice_range symbols 0 place)
+
+-- the symbols that a phrase begins with in some place: one that none begins with is at fault itself
+abbrev pub may_begin : Symbol → Bool
+may_begin Name = true
+may_begin SequenceName = true
+may_begin PropertyName = true
+may_begin Number = true
+may_begin Literal = true
+may_begin RepeatOpen = true
+may_begin RepeatPlus = true
+may_begin OpenParenthesis = true
+may_begin OpenBrace = true
+may_begin Exclamation = true
+may_begin Tilde = true
+may_begin And = true
+may_begin Caret = true
+may_begin Or = true
+may_begin Always = true
+may_begin EventuallyStrong = true
+may_begin Next = true
+may_begin NextRange = true
+may_begin Event = true
+may_begin EventRange = true
+may_begin _ = false
+
+abbrev pub MayBeTooDeep : List Symbol → (place : ℕ) → Type 0
+MayBeTooDeep symbols place =
+    (IsTrue (may_begin (symbol_at symbols place)) × (open_phrases_limit + 1 < openers symbols place))
+    ⊎ (item_limit + 3 ≤ place)
+
+-- a fault of depth is told of a token that may be too deep
+abbrev pub IsToldRightly : List Symbol → ParseError → Type 0
+IsToldRightly symbols (TooDeep token) = MayBeTooDeep symbols token
+IsToldRightly symbols _ = Unit {0}

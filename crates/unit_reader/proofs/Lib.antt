@@ -1,0 +1,17 @@
+pub mod Loops
+pub mod Levels
+pub mod SymbolTests
+pub mod ExprFacts
+pub mod ExprReads
+pub mod ExprSpells
+pub mod SereFacts
+pub mod SereReads
+pub mod SereSpells
+pub mod PropReads
+pub mod PropSound
+pub mod PropFacts
+pub mod PropSpells
+pub mod ItemReads
+pub mod ItemSpells
+pub mod Learning
+pub mod UnitReads
