@@ -1,0 +1,10 @@
+pub mod Reckoning
+pub mod NumberLemmas
+pub mod Judged
+pub mod NewNames
+pub mod FirstFault
+pub mod LimitLemmas
+pub mod FittingLemmas
+pub mod LimitsOfUnits
+pub mod OrderLemmas
+pub mod AllFit

@@ -1,0 +1,12 @@
+pub mod Source
+pub mod Numbers
+pub mod Operators
+pub mod Sites
+pub mod Known
+pub mod Faults
+pub mod Order
+pub mod Placed
+pub mod Measures
+pub mod Limits
+pub mod Fitting
+pub mod inner
