@@ -33,6 +33,6 @@ unit_fits s items none = items_fit s nothing items (record { narrow = tt; none =
 
 pub rules_fit : (s : Source) (name : ℕ) (items : List RawItem)
     → unit_faults s (record { name = name; items = map item_of items }) ≡ []
-        → All (λ item. ItemFits s (item_of item)) items
+    → All (λ item. ItemFits s (item_of item)) items
 rules_fit s name items none =
     unit_fits s items (ap (λ sites. faults_in s nothing sites) (flat_map-of_map item_of item_sites items) ∙ none)

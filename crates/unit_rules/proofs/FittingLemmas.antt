@@ -181,7 +181,7 @@ sized_parts bytes p =
           w.0).1,
       below_true (sized_value bytes) (2 ^ sized_width bytes)
           (both (are_digits (sized_base bytes) (sized_digits bytes))
-              (nat_lt (sized_value bytes) (2 ^ sized_width bytes))
+          (nat_lt (sized_value bytes) (2 ^ sized_width bytes))
           w.1).1,
     )
 

@@ -11,7 +11,8 @@ fn declares(vcd: &Vcd, place: usize, scope: &[u8], name: &[u8], code: usize) -> 
 }
 
 // A range may be glued to its name or stand apart, and a select is part of the name.
-const DECLARATIONS: &str = "$scope module a $end $scope begin b.c $end $var reg 8 # m [2] [7:0] $end \
+const DECLARATIONS: &str =
+    "$scope module a $end $scope begin b.c $end $var reg 8 # m [2] [7:0] $end \
     $var reg 8 & v[7:0] $end $upscope $end $var reg 8 # n[1] $end $upscope $end $var real 1 ab r $end \
     $enddefinitions $end";
 

@@ -15,8 +15,7 @@ pub fn sampled(
     name: &[u8],
     width: u32,
     skip: u32,
-) -> Result<Trace, SampleError>
-{
+) -> Result<Trace, SampleError> {
     if width > 64 {
         return Err(SampleError::OutOfMemory);
     }

@@ -142,6 +142,9 @@ fn each_kind_of_node_runs_in_its_module(rt: HostRuntime) -> Result<(), Fail> {
 endmodule
 ";
     assert_eq!(rt; text.as_slice(), wanted.as_slice());
-    assert_eq!(rt; answers(rt.alloc(), checker)?, [false, false, true, true, false]);
+    assert_eq!(rt;
+        answers(rt.alloc(), checker)?,
+        [false, false, true, true, false]
+    );
     Ok(())
 }

@@ -14,7 +14,7 @@ returns-in_ok-right_bare-in-Binary-clause-visited t c =
     ≡ binary c.in-Binary.mark (expr_of c.get-in-Binary.result.now) (expr_of c.get-in-Binary-3.result.now) =
     ap expr_of c.in-Binary.is
     ∙ (λ i. binary c.in-Binary.mark (sym c.get-in-Binary.ensures.whole_tree i)
-        (sym c.get-in-Binary-3.ensures.whole_tree i)) in
+    (sym c.get-in-Binary-3.ensures.whole_tree i)) in
     let s = source c.args.text.now c.args.tokens.now in
     let same : expr_of c.get-in-Binary-2.result.now ≡ expr_of c.get-in-Binary-3.result.now =
     c.get-in-Binary-2.ensures.whole_tree ∙ sym c.get-in-Binary-3.ensures.whole_tree in
