@@ -1,6 +1,6 @@
 -- The first fail of a run from reset, from the answers of steps.
 use Rattle.std.proofs.Common.{◌≡◌, ◌∙◌, sym, ap, subst, refl, ℕ, zero, suc, ◌+◌, ◌<◌, Bool, true, false, List, [], ◌∷◌}
-use Rattle.std.proofs.Common.{◌++◌, map, take, drop, length, replicate, All, Option, Some, None, unwrap_or, get_or}
+use Rattle.std.proofs.Common.{◌++◌, map, take, drop, length, replicate, All, Some, None, unwrap_or, get_or}
 use Rattle.std.proofs.Common.{arith}
 use Rattle.std.specs.Prelude.{slice_get, option_map}
 use Rattle.std.proofs.Math.Seq.{take-suc}
@@ -11,7 +11,8 @@ use Rattle.std.proofs.lemmas.Option.{slice_get_within, get_or_from_slice_get, sl
 use Rattle.psl_model.specs.Value.{bit_of, FitWidths}
 use Rattle.verilog_text.specs.Module.{Module, IsLawful}
 use Rattle.verilog_text.specs.Run.{Cycle, IsRun, HaveInputs, IsRunFromReset, fail_stream}
-use Rattle.verilog_cycles.specs.Steps.{port_widths, reset_values, IsStep, AreSteps}
+use Rattle.verilog_text.specs.Interface.{port_widths}
+use Rattle.verilog_cycles.specs.Steps.{reset_values, IsStep, AreSteps}
 use Rattle.verilog_text.specs.View.{module_of}
 use Rattle.verilog_cycles.specs.State.{State}
 use Rattle.vcd_replay.specs.FirstFail.{IsFirstFail, port_row, port_rows, end_values, FitsRow, FitsRows}
@@ -93,7 +94,7 @@ GoesOn = (m : Module) (inputs : List (List ℕ)) (eots : List Bool) (before : Li
 
 abbrev pub AnswersRuns : Type 0
 AnswersRuns = (m : Module) → IsLawful m → (inputs : List (List ℕ)) (eots answers : List Bool) (after : List ℕ) →
-    All (FitWidths (port_widths m)) inputs → AreSteps m inputs eots (reset_values m) answers after →
+    All (FitWidths (port_widths m.ports)) inputs → AreSteps m inputs eots (reset_values m) answers after →
     (reset : Cycle) (cycles : List Cycle) → IsRunFromReset m inputs (map bit_of eots) reset cycles →
     fail_stream cycles ≡ map bit_of answers
 
@@ -110,7 +111,7 @@ steps_next goes m inputs eots k before answers between ports eot answer after at
     (goes m (take k inputs) (take k eots) before answers between ports eot answer after steps step))
 
 pub fails_at : AnswersRuns → (m : Module) → IsLawful m → (inputs : List (List ℕ)) (eots : List Bool) (n : ℕ)
-    (after : List ℕ) → All (FitWidths (port_widths m)) inputs
+    (after : List ℕ) → All (FitWidths (port_widths m.ports)) inputs
     → AreSteps m (take (suc n) inputs) (take (suc n) eots) (reset_values m) (replicate n false ++ true ∷ []) after
     → (reset : Cycle) (cycles : List Cycle) → IsRunFromReset m inputs (map bit_of eots) reset cycles
     → IsFirstFail (fail_stream cycles) (Some n)
@@ -120,11 +121,11 @@ fails_at law m lawful inputs eots n after fit steps reset cycles run =
     (take-map bit_of (suc n) eots) (front_of_run m inputs (map bit_of eots) reset cycles (suc n) run) in
     let says : fail_stream (take (suc n) cycles) ≡ map bit_of (replicate n false ++ true ∷ []) =
     law m lawful (take (suc n) inputs) (take (suc n) eots) (replicate n false ++ true ∷ []) after
-    (All-take (FitWidths (port_widths m)) (suc n) inputs fit) steps reset (take (suc n) cycles) front
+    (All-take (FitWidths (port_widths m.ports)) (suc n) inputs fit) steps reset (take (suc n) cycles) front
     in found (fail_stream cycles) n (take-map (λ (c : Cycle). c.fail) (suc n) cycles ∙ says)
 
 pub never_fails : AnswersRuns → (m : Module) → IsLawful m → (inputs : List (List ℕ)) (eots : List Bool) (n : ℕ)
-    (after : List ℕ) → All (FitWidths (port_widths m)) inputs
+    (after : List ℕ) → All (FitWidths (port_widths m.ports)) inputs
     → AreSteps m inputs eots (reset_values m) (replicate n false) after
     → (reset : Cycle) (cycles : List Cycle) → IsRunFromReset m inputs (map bit_of eots) reset cycles
     → IsFirstFail (fail_stream cycles) None
@@ -198,8 +199,8 @@ more_run goes before now after rows from end cycle row eot answer has at_row at_
 }
 
 ports_fit : (m : Module) (from : ℕ) (rows : List (List ℕ)) → FitsRows m from rows
-    → All (FitWidths (port_widths m)) (port_rows from (length m.ports) rows)
-ports_fit m from rows fits = All-map (FitWidths (port_widths m)) (port_row from (length m.ports)) rows
+    → All (FitWidths (port_widths m.ports)) (port_rows from (length m.ports) rows)
+ports_fit m from rows fits = All-map (FitWidths (port_widths m.ports)) (port_row from (length m.ports)) rows
     (λ k d low. (fits k d low).fit)
 
 pub first_here : AnswersRuns → GoesOn → (before now after : State) (rows : List (List ℕ)) (from : ℕ) (end : Bool)
