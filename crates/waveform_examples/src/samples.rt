@@ -1,14 +1,12 @@
 //! Samples of texts, worked out by hand: the values before each rising edge of a clock.
 
-ghost use Rattle.std.specs.Prelude.{◌≤◌, ◌<◌, length};
-
 use psl_model::{Name, Signal};
 use std::alloc::Global;
 use std::test::Fail;
 use vcd_reader::Vcd;
 use vcd_replay::{SampleError, Trace, sample};
 
-/// The trace of one signal of a text.
+/// The trace of one signal of a text, of 64 bits at most.
 pub fn sampled(
     alloc: Global,
     text: &[u8],
@@ -18,8 +16,10 @@ pub fn sampled(
     width: u32,
     skip: u32,
 ) -> Result<Trace, SampleError>
-    requires { width ≤ 64 }
 {
+    if width > 64 {
+        return Err(SampleError::OutOfMemory);
+    }
     let Ok(vcd) = Vcd::read(alloc, text) else {
         return Err(SampleError::OutOfMemory);
     };
