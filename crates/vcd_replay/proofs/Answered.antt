@@ -232,8 +232,8 @@ abbrev var_or : Var → Option Var → Var
 var_or other None = other
 var_or other (Some var) = var
 
-same_first : (vars : List Var) (scope name : List ℕ) (a b : Var) → IsFirst vars scope name a → IsFirst vars scope name b
-    → a ≡ b
+pub same_first : (vars : List Var) (scope name : List ℕ) (a b : Var) → IsFirst vars scope name a
+    → IsFirst vars scope name b → a ≡ b
 same_first vars scope name a b x y =
     let place : x.place ≡ y.place = elim (cases_lt x.place y.place) [
       | inl low ↦ absurd (y.none_before x.place a low x.stands x.named)
@@ -246,8 +246,8 @@ same_first vars scope name a b x y =
     ap (var_or a) both
 
 -- two samples of a cycle and a port have the same digits
-one_sample : (s : Source) (times : List ℕ) (n k : ℕ) (x y : List ℕ) → Samples s times n k x → Samples s times n k y → x
-    ≡ y
+pub one_sample : (s : Source) (times : List ℕ) (n k : ℕ) (x y : List ℕ) → Samples s times n k x
+    → Samples s times n k y → x ≡ y
 one_sample s times n k x y a b =
     let time_both : Some a.time ≡ Some b.time = sym a.begins ∙ b.begins in
     let time : a.time ≡ b.time = ap (number_or 0) time_both in

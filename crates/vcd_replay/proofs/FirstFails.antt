@@ -1,6 +1,6 @@
 -- The first fail of a run from reset, from the answers of steps.
 use Rattle.std.proofs.Common.{◌≡◌, ◌∙◌, sym, ap, subst, refl, ℕ, zero, suc, ◌+◌, ◌<◌, Bool, true, false, List, [], ◌∷◌}
-use Rattle.std.proofs.Common.{◌++◌, map, take, drop, length, replicate, All, Option, Some, None, unwrap_or, get_or}
+use Rattle.std.proofs.Common.{◌++◌, map, take, drop, length, replicate, All, Some, None, unwrap_or, get_or}
 use Rattle.std.proofs.Common.{arith}
 use Rattle.std.specs.Prelude.{slice_get, option_map}
 use Rattle.std.proofs.Math.Seq.{take-suc}

@@ -1,20 +1,19 @@
 -- The values of a sampled row fit their signals.
 use Rattle.std.proofs.Common.{◌≡◌, ◌∙◌, sym, ap, subst, refl, ℕ, zero, suc, ◌+◌, ◌-◌, ◌*◌, ◌^◌, ◌<◌, ◌≤◌, ◌⊎◌, inl, inr}
-use Rattle.std.proofs.Common.{List, [], ◌∷◌, ◌++◌, map, take, drop, length, All, Option, Some, None, unwrap_or, get_or}
+use Rattle.std.proofs.Common.{List, [], ◌∷◌, map, take, drop, length, Some, None, unwrap_or, get_or}
 use Rattle.std.proofs.Common.{arith}
 use Rattle.std.proofs.Common.{length-append}
 use Rattle.std.proofs.lemmas.List.{length-map, take-map, drop-map}
 use Rattle.std.specs.Prelude.{fold, slice_get, slice_range}
 use Rattle.std.specs.List.{repeat}
 use Rattle.std.proofs.Math.Nat.{mul-le-mul_right, mul_assoc, pow-succ', lt_of_lt_of_le}
-use Rattle.std.proofs.lemmas.Option.{slice_get_within, slice_get-get_or, slice_get_past}
+use Rattle.std.proofs.lemmas.Option.{slice_get-get_or, slice_get_past}
 use Rattle.psl_model.specs.declared.names.Signal.{Signal}
 use Rattle.psl_model.specs.Value.{FitWidths}
 use Rattle.vcd_reader.specs.declared.waveform.Change.{Change}
 use Rattle.vcd_reader.specs.declared.waveform.Var.{Var}
-use Rattle.vcd_reader.specs.Sound.{IsSound, IsSizedVar, IsSizedChange}
-use Rattle.vcd_replay.specs.Values.{HasDigits, IsLast, Before, AreKnown, bits_value, extended, extension}
-use Rattle.vcd_replay.specs.Ports.{IsFor}
+use Rattle.vcd_reader.specs.Sound.{IsSound, IsSizedChange}
+use Rattle.vcd_replay.specs.Values.{HasDigits, Before, AreKnown, bits_value, extended, extension}
 use Rattle.verilog_text.specs.Module.{Module}
 use Rattle.vcd_replay.specs.FirstFail.{FitsRow, FitsRows, ArePortsFrom}
 use Rattle.vcd_replay.specs.Sampling.{Source, IsTrace, IsRow, Samples}

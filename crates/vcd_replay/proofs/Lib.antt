@@ -9,3 +9,6 @@ mod Answered
 mod Extension
 mod FirstFails
 mod FittingRows
+mod RisingLists
+mod OneAnswer
+mod OneFirstFail
