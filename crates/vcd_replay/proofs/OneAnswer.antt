@@ -51,11 +51,11 @@ one_trace s a b x y =
     let many : length x.times ≡ length y.times = ap (λ ts. length ts) times in
     let long : length a ≡ length b = omega (arith, x.long, y.long, many) in
     same_lists a b long (λ cycle d low.
-        let row : List ℕ = get_or a cycle d in
-        let is : IsRow s y.times cycle row = subst (λ ts. IsRow s ts cycle row) times
-        (x.rows_are cycle row (slice_get-get_or a cycle d low)) in
-        one_row s y.times cycle row (get_or b cycle d) is
-            (y.rows_are cycle (get_or b cycle d) (slice_get-get_or b cycle d (omega (arith, low, long)))))
+    let row : List ℕ = get_or a cycle d in
+    let is : IsRow s y.times cycle row = subst (λ ts. IsRow s ts cycle row) times
+    (x.rows_are cycle row (slice_get-get_or a cycle d low)) in
+    one_row s y.times cycle row (get_or b cycle d) is
+    (y.rows_are cycle (get_or b cycle d) (slice_get-get_or b cycle d (omega (arith, low, long)))))
 
 -- ---- signals
 
@@ -157,7 +157,7 @@ no_unknown_traced s cycle name rows x y =
     let low : s.skip + cycle < length y.times = begun s y.times u.0 cycle x.port u.1 in
     let row : List ℕ = get_or rows cycle [] in
     known_in_row s y.times cycle x.port row
-        (y.rows_are cycle row (slice_get-get_or rows cycle [] (omega (arith, low, y.long)))) u
+    (y.rows_are cycle row (slice_get-get_or rows cycle [] (omega (arith, low, y.long)))) u
 
 -- of two first samples none comes before the other
 not_before : (s : Source) (cycle other : ℕ) (name named : List ℕ) (x : FirstUnknown s cycle name)

@@ -53,7 +53,7 @@ same_members (x ∷ xs) (y ∷ ys) rising_x rising_y to from =
     (from y (0, omega arith, refl)) in
     let tail : xs ≡ ys = same_members xs ys (rising_tail x xs rising_x) (rising_tail y ys rising_y)
     (λ t has. let low : x < t = below_tail x t xs rising_x has in
-        past_head y t ys (omega (arith, head, low)) (to t (in_cons x t xs has)))
+    past_head y t ys (omega (arith, head, low)) (to t (in_cons x t xs has)))
     (λ t has. let low : y < t = below_tail y t ys rising_y has in
-        past_head x t xs (omega (arith, head, low)) (from t (in_cons y t ys has))) in
+    past_head x t xs (omega (arith, head, low)) (from t (in_cons y t ys has))) in
     ap (λ (z : ℕ). z ∷ xs) head ∙ ap (λ (zs : List ℕ). y ∷ zs) tail
