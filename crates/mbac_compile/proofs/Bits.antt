@@ -12,24 +12,25 @@ use Rattle.verilog_text.specs.State.{register_widths}
 use Rattle.verilog_text.specs.Stream.{HasRegistersOf}
 use Rattle.property_circuits.specs.Counts.{register_bits}
 
-firsts : List (ℕ × ℕ) → ℕ
-firsts pairs = sum (map (λ (p : ℕ × ℕ). p.0) pairs)
+abbrev firsts : List (ℕ × ℕ) → List ℕ
+firsts pairs = map (λ (p : ℕ × ℕ). p.0) pairs
 
 of_module : (rs : List Register) →
-    sum (map (λ (r : Register). r.width) rs)
+    map (λ (r : Register). r.width) rs
     ≡ firsts (map {B = ℕ × ℕ} (λ (r : Register). (r.width, r.initial)) rs)
 of_module [] = refl
-of_module (r ∷ rs) = ap (λ (n : ℕ). r.width + n) (of_module rs)
+of_module (r ∷ rs) = ap (λ (widths : List ℕ). r.width ∷ widths) (of_module rs)
 
 of_netlist : (rs : List net.Register) →
-    sum (map (λ (r : net.Register). r.width) rs)
+    map (λ (r : net.Register). r.width) rs
     ≡ firsts (map {B = ℕ × ℕ} (λ (r : net.Register). (r.width, r.initial)) rs)
 of_netlist [] = refl
-of_netlist (r ∷ rs) = ap (λ (n : ℕ). r.width + n) (of_netlist rs)
+of_netlist (r ∷ rs) = ap (λ (widths : List ℕ). r.width ∷ widths) (of_netlist rs)
 
 pub same_bits : (m : net.Netlist) (made : Module) → HasRegistersOf m made →
     sum (register_widths made) ≡ register_bits m
-same_bits m made has = of_module made.registers ∙ ap firsts has ∙ sym (of_netlist m.registers)
+same_bits m made has =
+    ap (λ (widths : List ℕ). sum widths) (of_module made.registers ∙ ap firsts has ∙ sym (of_netlist m.registers))
 
 pub ports_have_widths : (ports : List Signal) (widths : List ℕ) → All IsPort ports → port_widths ports ≡ widths →
     All IsWidth widths
