@@ -56,7 +56,7 @@ pub interface : IsInterface module_name None counter
 interface = record {
   identifier = (refl, refl);
   prefix = refl;
-  report = refl;
+  report = tt;
   ports = are_ports;
   distinct = distinct;
 }
