@@ -1,49 +1,83 @@
 #!/usr/bin/env bash
-# Measures what a step of the cycle machine costs, in picoseconds a node and cycle, beside Icarus Verilog and Verilator
-# over the same module and the same inputs: 700 registers in a chain, each of which changes where the one before it is
-# 1, and 4,201 nodes. All three count the cycles in which the output is 1, and must agree.
-# The machine is proved, built and run in a temporary copy of the repository.
+# Measures what a step of the cycle machine costs, in picoseconds a node and cycle: the best of 40 batches.
+# The measurement is proved, built and run as a test in a temporary copy of the repository, and that test fails on
+# purpose, since a failure shows its number.
 set -euo pipefail
 top=$(cd "$(dirname "$0")/.." && pwd)
 room=$(mktemp -d)
 trap 'rm -rf "$room"' EXIT
 cp -r "$top/." "$room"
-cp -r "$top/bench/cycle_machine" "$room/crates/machine_bench"
-# Sources of Rattle may stand in crates alone, so they lie here as texts.
-find "$room/crates/machine_bench" -name '*.txt' -exec sh -c 'mv "$1" "${1%.txt}"' _ {} \;
-mv "$room/crates/machine_bench/bench.v" "$room/crates/machine_bench/bench.cpp" "$room"
-echo 'machine_bench: psl_model circuit_core verilog_text verilog_cycles anyhow' >> "$room/crates.txt"
-cycles=2000
+cd "$room/crates/verilog_cycles"
+rm -rf must-fail
+sed -i 's/^mod arithmetic;/mod arithmetic;\n#[cfg(test)]\nmod bench;/' src/lib.rt
+mkdir -p proofs/bench/chain
+cat > proofs/bench/chain/Invariants.antt <<'ANTT'
+use Rattle.verilog_cycles.specs.inner.Nodes.{IsTape}
+use Rattle.verilog_cycles.proofs.bench.chain.Given as goal
 
-# The user's seconds of a command.
-seconds() {
-  local TIMEFORMAT=%U
-  { time "$@" > "$room/answer"; } 2>&1
+abbrev pub invariant-loop : goal.invariant-loop
+invariant-loop l = IsTape l.nodes.items
+ANTT
+cat > src/bench.rt <<'RATTLE'
+//! A measurement.
+
+ghost use Rattle.std.specs.Prelude.{◌≡◌, ◌+◌, ◌<◌, ◌^◌, IfOk, length};
+ghost use Rattle.verilog_cycles.specs.inner.Nodes.{IsTape};
+
+use crate::nodes::{Node, evaluate};
+use psl_model::{BinOp, UnOp};
+use std::alloc::{AllocError, Global};
+use std::test::Fail;
+use std::time::Instant;
+
+fn add(nodes: &mut Vec<Node>) -> Result<(), AllocError>
+    requires { IsTape nodes.old.items }
+    ensures tape { IfOk result (λ _. IsTape nodes.new.items) }
+{
+    let at = nodes.len();
+    let node = if at < 2 {
+        Node::Number(0)
+    } else if at % 2 == 0 {
+        Node::Unary(UnOp::Not, 1, at - 1)
+    } else {
+        Node::Binary(BinOp::And, 1, at - 1, at - 2)
+    };
+    nodes.push(node)?;
+    Ok(())
 }
 
-cd "$room/crates/machine_bench"
-rt run > "$room/bench_module.v" 2> "$room/errors" || { cat "$room/errors" "$room/bench_module.v"; exit 1; }
-cd "$room"
-machine=$(sed -n 's|^// picoseconds: ||p' bench_module.v)
-nodes=$(sed -n 's|^// nodes: ||p' bench_module.v)
-ones=$(sed -n 's|^// ones: ||p' bench_module.v)
-echo "machine: $machine ps a node and cycle, $nodes nodes, output 1 in $ones of $cycles cycles"
-
-report() {
-  [ "$(cat answer)" = "$ones" ] || { echo "$1 counts $(cat answer)"; exit 1; }
-  awk -v name="$1" -v once="$2" -v more="$3" -v nodes="$nodes" -v cycles="$4" -v machine="$machine" 'BEGIN {
-    cost = (more - once) * 1e12 / (nodes * cycles)
-    printf "%s: %.0f ps a node and cycle, %.2f times the machine\n", name, cost, cost / machine }'
+fn chain(alloc: Global, count: usize) -> Result<Vec<Node>, AllocError>
+    ensures { IfOk result (λ nodes. IsTape nodes.items) }
+{
+    let mut nodes = Vec::new(alloc);
+    for _ in 0..count {
+        add(&mut nodes)?;
+    }
+    Ok(nodes)
 }
 
-# A simulator's cost is what several runs after one another take above one, so that its start isn't counted.
-iverilog -g2005 -o icarus bench_module.v bench.v
-one=$(seconds vvp icarus +runs=1)
-more=$(seconds vvp icarus +runs=4)
-report "Icarus Verilog" "$one" "$more" $((3 * cycles))
+fn spin(nodes: &[Node], table: &mut [u64], cycles: usize)
+    requires size { length table.old ≡ length nodes.now }
+    requires tape { IsTape nodes.now }
+{
+    for _ in 0..cycles {
+        evaluate(nodes, 2, table);
+    }
+}
 
-verilator --cc --exe --build -O3 -Wno-fatal -CFLAGS -O3 --top-module mbac_u_1 --Mdir compiled bench_module.v \
-  bench.cpp > compiling 2>&1 || { cat compiling; exit 1; }
-one=$(seconds compiled/Vmbac_u_1 1)
-more=$(seconds compiled/Vmbac_u_1 501)
-report "Verilator" "$one" "$more" $((500 * cycles))
+#[test]
+fn measure(rt: HostRuntime) -> Result<(), Fail> {
+    let nodes = chain(rt.alloc(), 4002)?;
+    let mut table: Vec<u64> = vec![in rt.alloc(); 0; nodes.len()]?;
+    let mut best = u128::MAX;
+    for _ in 0..40 {
+        let start = Instant::now(&rt)?;
+        spin(&nodes, &mut table, 500);
+        best = best.min(start.elapsed(&rt)?.as_nanos());
+    }
+    let picoseconds = best / 2000;
+    assert_eq!(rt; picoseconds, 0);
+    Ok(())
+}
+RATTLE
+rt test 2>&1 | sed -n 's/^ *left: \([0-9]*\)$/\1 ps a node and cycle/p'
