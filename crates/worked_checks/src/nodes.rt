@@ -111,8 +111,8 @@ fn answers(alloc: Global, checker: Module) -> Result<[bool; 5], AllocError>
     Ok([first, second, third, fourth, fifth])
 }
 
-// The text of the netlist's module, and what it answers; None where something is missing.
-fn seen(alloc: Global) -> Option<(Vec<u8>, [bool; 5])> {
+// The text of the netlist's module, and whether it answers as it must; None where something is missing.
+fn seen(alloc: Global) -> Option<(Vec<u8>, bool)> {
     let Ok(net) = each_kind(alloc) else {
         return None;
     };
@@ -127,7 +127,7 @@ fn seen(alloc: Global) -> Option<(Vec<u8>, [bool; 5])> {
     };
     match answers(alloc, checker) {
         Err(_) => None,
-        Ok(answers) => Some((text, answers)),
+        Ok(answers) => Some((text, answers == [false, false, true, true, false])),
     }
 }
 
@@ -159,9 +159,9 @@ endmodule
 fn each_kind_of_node_runs_in_its_module(rt: HostRuntime) -> Result<(), Fail> {
     match seen(rt.alloc()) {
         None => assert!(rt; false),
-        Some((text, answers)) => {
+        Some((text, answers_so)) => {
             assert_eq!(rt; text.as_slice(), TEXT);
-            assert_eq!(rt; answers, [false, false, true, true, false]);
+            assert!(rt; answers_so);
         }
     }
     Ok(())
