@@ -7,6 +7,3 @@ mod nodes;
 
 pub use netlist::Netlist;
 pub use nodes::{Check, Gate, Net, NetReg, Node, Op, Reg};
-
-#[cfg(test)]
-mod tests;

@@ -183,37 +183,3 @@ impl Subexpr {
         Subexpr::new(alloc, self.get().copy(alloc)?)
     }
 }
-
-#[cfg(test)]
-mod tests {
-    use super::*;
-    use std::collections::HashSet;
-    use std::test::Fail;
-
-    // a[2] + 8'd200
-    #[test]
-    fn an_expression_comes_apart_as_it_was_built(rt: HostRuntime) -> Result<(), Fail> {
-        let bit = Subexpr::new(rt.alloc(), Expr::Bit(1, 2))?;
-        let number = Subexpr::new(rt.alloc(), Expr::Sized(8, 200))?;
-        let sum = Subexpr::new(rt.alloc(), Expr::Binary(BinOp::Add, bit, number))?;
-        let Expr::Binary(BinOp::Add, bit, number) = sum.into_inner() else {
-            return Err("a sum".into());
-        };
-        assert!(rt; matches!(bit.get(), Expr::Bit(1, 2)));
-        assert!(rt; matches!(number.get(), Expr::Sized(8, 200)));
-        Ok(())
-    }
-
-    #[test]
-    fn expressions_are_equal_where_their_trees_are(rt: HostRuntime) -> Result<(), Fail> {
-        let not = Expr::Unary(UnOp::Not, Subexpr::new(rt.alloc(), Expr::Whole(1))?);
-        let flip = Expr::Unary(UnOp::Flip, Subexpr::new(rt.alloc(), Expr::Whole(1))?);
-        let mut seen = HashSet::new(rt.alloc());
-        assert!(rt; seen.insert(not)?);
-        assert!(rt; !seen.contains(&flip));
-        assert!(rt;
-            seen.contains(&Expr::Unary(UnOp::Not, Subexpr::new(rt.alloc(), Expr::Whole(1))?))
-        );
-        Ok(())
-    }
-}

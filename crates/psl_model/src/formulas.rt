@@ -116,21 +116,3 @@ impl Subformula {
         Box::into_inner(node)
     }
 }
-
-#[cfg(test)]
-mod tests {
-    use super::*;
-    use std::test::Fail;
-
-    // !a
-    #[test]
-    fn a_formula_comes_apart_as_it_was_built(rt: HostRuntime) -> Result<(), Fail> {
-        let body = Subformula::new(rt.alloc(), Formula::Bool(Expr::Whole(7)))?;
-        let not = Subformula::new(rt.alloc(), Formula::Not(body))?;
-        let Formula::Not(body) = not.into_inner() else {
-            return Err("a negation".into());
-        };
-        assert!(rt; matches!(body.get(), Formula::Bool(Expr::Whole(7))));
-        Ok(())
-    }
-}

@@ -10,8 +10,6 @@ mod names;
 mod operators;
 mod refusals;
 mod sequences;
-#[cfg(test)]
-mod tests;
 mod units;
 pub mod values;
 

@@ -76,32 +76,3 @@ pub struct Signal {
     /// In bits.
     pub width: u32,
 }
-
-#[cfg(test)]
-mod tests {
-    use super::*;
-    use std::collections::HashSet;
-    use std::test::Fail;
-
-    #[test]
-    fn a_name_keeps_its_bytes_and_equals_its_copy_alone(rt: HostRuntime) -> Result<(), Fail> {
-        let name = Name::new(rt.alloc(), b"req_1")?;
-        assert_eq!(rt; name.bytes(), b"req_1".as_slice());
-        let copy = name.copy(rt.alloc())?;
-        assert_eq!(rt; copy.bytes(), b"req_1".as_slice());
-        assert!(rt; copy == name);
-        for other in [b"req_2".as_slice(), b"req_", b"req_10", b""] {
-            assert!(rt; Name::new(rt.alloc(), other)? != name);
-        }
-        Ok(())
-    }
-
-    #[test]
-    fn a_set_finds_a_name_by_its_bytes(rt: HostRuntime) -> Result<(), Fail> {
-        let mut names = HashSet::new(rt.alloc());
-        assert!(rt; names.insert(Name::new(rt.alloc(), b"ack")?)?);
-        assert!(rt; names.contains(&Name::new(rt.alloc(), b"ack")?));
-        assert!(rt; !names.contains(&Name::new(rt.alloc(), b"req")?));
-        Ok(())
-    }
-}

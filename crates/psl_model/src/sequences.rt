@@ -209,33 +209,3 @@ impl Subsere {
         Subsere::new(alloc, self.get().copy(alloc)?)
     }
 }
-
-#[cfg(test)]
-mod tests {
-    use super::*;
-    use std::test::Fail;
-
-    // a[*2:inf]
-    #[test]
-    fn a_sequence_comes_apart_as_it_was_built(rt: HostRuntime) -> Result<(), Fail> {
-        let a = Subsere::new(rt.alloc(), Sere::Bool(Expr::Whole(7)))?;
-        let many = Subsere::new(rt.alloc(), Sere::Repeat(a, 2, None))?;
-        let Sere::Repeat(a, 2, None) = many.into_inner() else {
-            return Err("a repetition".into());
-        };
-        assert!(rt; matches!(a.get(), Sere::Bool(Expr::Whole(7))));
-        Ok(())
-    }
-
-    // {a[->1]; b}
-    #[test]
-    fn a_copied_sequence_is_equal(rt: HostRuntime) -> Result<(), Fail> {
-        let goto = Subsere::new(rt.alloc(), Sere::Goto(Expr::Whole(7), 1, Some(1)))?;
-        let next = Subsere::new(rt.alloc(), Sere::Bool(Expr::Whole(8)))?;
-        let sere = Sere::Then(goto, next);
-        let copy = sere.copy(rt.alloc())?;
-        assert!(rt; copy == sere);
-        assert!(rt; copy != Sere::Goto(Expr::Whole(7), 1, None));
-        Ok(())
-    }
-}

@@ -6,9 +6,6 @@ ghost use Rattle.psl_model.specs.View.{formula_of};
 ghost use Rattle.simple_subset.specs.Subset.{is_boolean, is_plain_sequence, unless, for_some, until_rule};
 ghost use Rattle.simple_subset.specs.Subset.{broken_at, broken_rules, first_broken, InSubset};
 
-#[cfg(test)]
-mod tests;
-
 use psl_model::{Formula, Reach};
 
 /// A rule of the simple subset, by its number, from 1 to 11.

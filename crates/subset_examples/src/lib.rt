@@ -6,3 +6,5 @@
 mod accepted;
 #[cfg(test)]
 mod formulas;
+#[cfg(test)]
+mod rules;

@@ -1,6 +1,5 @@
 pub mod Declared
 pub mod Evaluation
-pub mod Examples
 pub mod Lines
 pub mod Lists
 pub mod Machines

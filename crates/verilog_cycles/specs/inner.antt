@@ -1,5 +1,4 @@
 -- What no reader has to believe: how the machine keeps a module's expressions.
-pub mod Examples
 pub mod Nodes
 pub mod Ready
 pub mod Program

@@ -8,7 +8,5 @@ mod loading;
 mod machine;
 mod nodes;
 mod program;
-#[cfg(test)]
-mod tests;
 
 pub use machine::Machine;

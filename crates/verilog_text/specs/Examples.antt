@@ -1,7 +1,6 @@
 -- A small checker, its text and a run of it.
 use Rattle.std.specs.Prelude.{ℕ, List, [], ◌∷◌, ◌++◌, None, codes}
 use Rattle.psl_model.specs.declared.operators.UnOp.TheVariants.{Not, AnyOne}
-use Rattle.psl_model.specs.declared.names.Signal.{Signal}
 use Rattle.psl_model.specs.Expr.{whole, sized, unary}
 use Rattle.verilog_text.specs.Module.{Module}
 use Rattle.verilog_text.specs.Text.{line}
@@ -56,7 +55,3 @@ two_cycles =
     record { reset = 0; end_of_execution = 0; ports = 1 ∷ []; registers = 1 ∷ []; wires = 1 ∷ 0 ∷ []; fail = 0 }
     ∷ record { reset = 0; end_of_execution = 0; ports = 0 ∷ []; registers = 0 ∷ []; wires = 0 ∷ 1 ∷ []; fail = 1 }
     ∷ []
-
--- a port of four bits and one of one bit
-abbrev pub a_and_b : List Signal
-a_and_b = record { name = codes "a"; width = 4 } ∷ record { name = codes "b"; width = 1 } ∷ []

@@ -8,11 +8,7 @@ pub mod laws;
 mod making;
 mod module;
 mod names;
-#[cfg(test)]
-mod netlist_tests;
 mod printing;
-#[cfg(test)]
-mod tests;
 
 pub use making::to_module;
 pub use module::{Module, RegDecl, WireDecl};

@@ -1,1 +1,4 @@
+pub mod LawfulModules
+pub mod LetterPorts
 pub mod PortNames
+pub mod SetNexts

@@ -10,10 +10,10 @@ use Rattle.verilog_text.specs.Interface.{IsInterface}
 use Rattle.verilog_text.specs.Module.{IsPort}
 use Rattle.worked_checks.specs.Ports.{module_name, counter}
 
-abbrev is_another : (name word : List ℕ) → Bool
+abbrev pub is_another : (name word : List ℕ) → Bool
 is_another name word = not (bytes_eq word name)
 
-not_among : (name : List ℕ) → bytes_eq name name ≡ true → (words : List (List ℕ)) →
+pub not_among : (name : List ℕ) → bytes_eq name name ≡ true → (words : List (List ℕ)) →
     list_all (is_another name) words ≡ true → ¬ Contains words name
 not_among name itself words others found =
     let each = AllPass-from_list_all (is_another name) words others in

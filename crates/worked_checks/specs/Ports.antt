@@ -8,3 +8,7 @@ module_name = codes "mbac_u_1"
 -- a counter of four bits
 abbrev pub counter : List Signal
 counter = record { name = codes "cnt"; width = 4 } ∷ []
+
+-- a port of four bits and one of one bit
+abbrev pub a_and_b : List Signal
+a_and_b = record { name = codes "a"; width = 4 } ∷ record { name = codes "b"; width = 1 } ∷ []

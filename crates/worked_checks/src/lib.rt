@@ -2,6 +2,14 @@
 #![tactic(auto)]
 
 #[cfg(test)]
+mod cycles;
+#[cfg(test)]
+mod netlist_texts;
+#[cfg(test)]
+mod netlists;
+#[cfg(test)]
 mod nodes;
 #[cfg(test)]
 mod ports;
+#[cfg(test)]
+mod texts;

@@ -1,8 +1,8 @@
 //! The lengths up to which names, texts and whole texts are read.
 
 use super::{gives, long};
-use crate::Kind::{Name, Number, Sized, Text};
-use crate::{LexError, tokens};
+use psl_lexer::Kind::{Name, Number, Sized, Text};
+use psl_lexer::{LexError, tokens};
 use std::test::Fail;
 
 #[test]

@@ -1,8 +1,8 @@
 //! Where tokens, blanks and comments end.
 
 use super::gives;
-use crate::Kind::{Mark, Name, Number, Sized, Text, Word};
-use crate::{Key, Mark as Sign};
+use psl_lexer::Kind::{Mark, Name, Number, Sized, Text, Word};
+use psl_lexer::{Key, Mark as Sign};
 
 #[test]
 fn the_longest_arrow_is_taken(rt: HostRuntime) {

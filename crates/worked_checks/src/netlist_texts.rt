@@ -6,15 +6,14 @@ ghost use Rattle.psl_model.specs.Names.{IsReport};
 ghost use Rattle.psl_model.specs.View.{expr_of};
 ghost use Rattle.circuit_core.specs.declared.nodes.NetReg as code;
 ghost use Rattle.circuit_core.specs.WellMade.{IsFinished, IsGuard};
-ghost use Rattle.verilog_text.specs.Examples.{a_and_b};
+ghost use Rattle.worked_checks.specs.Ports.{a_and_b};
 
-use crate::making::to_module;
-use crate::printing::print;
 use circuit_core::laws::{a_netlist_is_well_made, a_netlist_with_all_set_is_finished};
 use circuit_core::{NetReg, Netlist};
 use psl_model::{BinOp, Expr, Name, Signal, Subexpr};
 use std::alloc::{AllocError, Global};
 use std::test::Fail;
+use verilog_text::{print, to_module};
 
 fn ports(alloc: Global) -> Result<Vec<Signal>, AllocError>
     ensures { IfOk result (λ ports. ports.items ≡ a_and_b) }

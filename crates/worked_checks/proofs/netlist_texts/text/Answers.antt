@@ -1,8 +1,8 @@
 use Rattle.std.proofs.Common.{List, ℕ, subst, sym}
 use Rattle.psl_model.specs.declared.names.Signal.{Signal}
 use Rattle.verilog_text.specs.Interface.{IsInterface}
-use Rattle.verilog_text.proofs.PortNames.{interface}
-use Rattle.verilog_text.proofs.netlist_tests.text.Goals as goal
+use Rattle.worked_checks.proofs.LetterPorts.{interface}
+use Rattle.worked_checks.proofs.netlist_texts.text.Goals as goal
 
 pub to_module-requires-clause-interface : goal.to_module-requires-clause-interface
 to_module-requires-clause-interface c =

@@ -1,7 +1,7 @@
 //! The first fault of a text, and its offset.
 
 use super::gives;
-use crate::LexError;
+use psl_lexer::LexError;
 use std::test::Fail;
 
 #[test]

@@ -2,7 +2,7 @@ ghost use Rattle.std.specs.Prelude.{◌≡◌, [], ◌∷◌, IfOk};
 ghost use Rattle.psl_model.specs.View.{expr_of};
 ghost use Rattle.circuit_core.specs.WellMade.{IsGuard};
 
-use crate::{Net, NetReg, Netlist, Node, Op, Reg};
+use circuit_core::{Net, NetReg, Netlist, Node, Op, Reg};
 use psl_model::{BinOp, Expr, Subexpr};
 use std::alloc::{AllocError, Global};
 use std::test::Fail;

@@ -10,7 +10,7 @@ use Rattle.psl_model.specs.Valid.{wants_width}
 use Rattle.psl_model.specs.Limits.{vector_limit}
 use Rattle.verilog_text.specs.Module.{Register, state_widths, IsExpression, IsLawful, IsPort}
 use Rattle.verilog_text.specs.Module.{IsRegister, IsWire}
-use Rattle.verilog_cycles.specs.inner.Examples.{exchange, comparison, counter}
+use Rattle.worked_checks.specs.Modules.{exchange, comparison, counter}
 
 none : {X : Type 0} (P : X → Type 0) → All P []
 none P k d lt = absurd (omega arith)

@@ -1,3 +1,4 @@
+-- A netlist whose registers are all seen to have a next net has them.
 use Rattle.std.proofs.Common.{◌≡◌, ℕ, zero, suc, List, [], ◌∷◌, map, ap, ◌∙◌, subst, refl, arith, Some, None}
 use Rattle.std.specs.Prelude.{All, IsSome, Option, slice_get}
 use Rattle.circuit_core.specs.Netlist.{Netlist, Register}
@@ -5,7 +6,6 @@ use Rattle.circuit_core.specs.View.{register_of, net_of}
 use Rattle.circuit_core.specs.Growth.{HaveNexts}
 use Rattle.circuit_core.specs.declared.nodes.Net.{Net}
 use Rattle.circuit_core.specs.declared.nodes.NetReg.{NetReg}
-use Rattle.verilog_text.proofs.netlist_tests.is_finished.Goals as goal
 
 some_net : (o : Option Net) → IsSome o → IsSome (net_of o)
 some_net None set = absurd (cc)
@@ -19,13 +19,6 @@ set_at (reg ∷ regs) all zero x at =
     subst (λ (y : Register). IsSome y.next) same (some_net reg.next (all 0 reg (omega arith)))
 set_at (reg ∷ regs) all (suc r) x at = set_at regs (λ j d lt. all (suc j) d (omega arith)) r x at
 
-nexts : (m : Netlist) (regs : List NetReg) → map register_of regs ≡ m.registers →
+pub nexts : (m : Netlist) (regs : List NetReg) → map register_of regs ≡ m.registers →
     All (λ (reg : NetReg). IsSome reg.next) regs → HaveNexts m 0
 nexts m regs same all = λ r x past at. set_at regs all r x (ap (λ (xs : List Register). slice_get xs r) same ∙ at)
-
-pub returns-in-Some : goal.returns-in-Some
-returns-in-Some c true =
-    let m = c.args.netlist.now in
-    c.a_netlist_with_all_set_is_finished.ensures m c.a_netlist_is_well_made.ensures
-    (nexts m c.regs.result.now c.regs.ensures (c.are_set.ensures.0 true))
-    (subst (λ (o : Option ℕ). IsSome o) c.in-Some.ensures refl)

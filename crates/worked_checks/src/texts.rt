@@ -1,11 +1,10 @@
 //! Whole texts, written by hand from the format.
 
-use crate::module::{Module, RegDecl, WireDecl};
-use crate::printing::print;
 use psl_model::{BinOp, Expr, Name, Signal, Subexpr, UnOp};
 use sqlite_items::Items;
 use std::alloc::{AllocError, Global};
 use std::test::Fail;
+use verilog_text::{Module, RegDecl, WireDecl, print};
 
 fn signal(alloc: Global, name: &[u8], width: u32) -> Result<Signal, AllocError> {
     let name = Name::new(alloc, name)?;

@@ -1,10 +1,8 @@
 //! Expressions with widths and values that were worked out by hand.
 
-use crate::expressions::{Expr, Subexpr};
-use crate::formulas::Formula;
-use crate::names::Name;
-use crate::operators::{BinOp, OPERATORS, UnOp, operator_table};
-use crate::units::{Directive, PslUnit};
+use psl_model::{
+    BinOp, Directive, Expr, Formula, Name, OPERATORS, PslUnit, Subexpr, UnOp, operator_table,
+};
 use sqlite_items::Items;
 use std::alloc::Global;
 use std::collections::HashSet;

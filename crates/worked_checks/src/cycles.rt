@@ -7,13 +7,13 @@ ghost use Rattle.psl_model.specs.declared.operators.BinOp.{BinOp};
 ghost use Rattle.verilog_text.specs.Examples.{small_checker};
 ghost use Rattle.verilog_text.specs.Module.{IsLawful};
 ghost use Rattle.verilog_text.specs.View.{module_of};
-ghost use Rattle.verilog_cycles.specs.inner.Examples.{exchange, comparison, counter};
+ghost use Rattle.worked_checks.specs.Modules.{exchange, comparison, counter};
 
-use crate::Machine;
 use psl_model::{BinOp, Expr, Name, Signal, Subexpr, UnOp};
 use sqlite_items::Items;
 use std::alloc::{AllocError, Global};
 use std::test::Fail;
+use verilog_cycles::Machine;
 use verilog_text::examples::small_checker_is_lawful;
 use verilog_text::{Module, RegDecl, WireDecl};
 

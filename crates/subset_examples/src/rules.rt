@@ -1,5 +1,5 @@
-use crate::{Rule, check, is_boolean};
 use psl_model::{Expr, Formula, Reach, Sere, Subformula};
+use simple_subset::{Rule, check, is_boolean};
 use std::alloc::{AllocError, Global};
 use std::test::Fail;
 

@@ -1,8 +1,8 @@
 //! Each word and each mark, alone and between others, and those that are left out.
 
 use super::{between, gives, short_length};
-use crate::Kind::{Mark, Name, Word};
-use crate::{Key, LexError, Mark as Sign};
+use psl_lexer::Kind::{Mark, Name, Word};
+use psl_lexer::{Key, LexError, Mark as Sign};
 use std::alloc::{AllocError, Global};
 use std::test::Fail;
 
