@@ -30,9 +30,9 @@ pub struct Checker {
     pub steps: u64,
 }
 
-/// A module that checks a base formula over its ports, which have these widths in bits. It also checks each formula over
-/// more signals that says of the signals at its ports' places what the base formula says. The formula is refused where
-/// its circuit is.
+/// A module that checks a base formula over its ports, which have these widths in bits. It also checks each formula
+/// over more signals that says of the signals at its ports' places what the base formula says. The formula is refused
+/// where its circuit is.
 pub fn checker_of(
     alloc: Global,
     base: &Base,

@@ -2,7 +2,8 @@
 
 ghost use Rattle.std.specs.Prelude.{◌≡◌, [], ◌++◌, IfOk, OnOk};
 ghost use Rattle.vcd_reader.specs.inner.StateView.{state_of};
-ghost use Rattle.vcd_reader.specs.inner.Rules.{at_declaration, at_upscope, at_scope_name, at_size, at_code, at_name, at_rest};
+ghost use Rattle.vcd_reader.specs.inner.Rules.{at_declaration, at_upscope, at_scope_name, at_size};
+ghost use Rattle.vcd_reader.specs.inner.Rules.{at_code, at_name, at_rest};
 ghost use Rattle.vcd_reader.specs.inner.Steps.{Gives};
 
 use crate::names::range_start;

@@ -23,7 +23,9 @@ take_next xs k x h = take-suc xs k x (slice_get_within xs k x h)
     ∙ ap (λ y. take k xs ++ y ∷ []) (get_or_from_slice_get xs k x x h)
 
 pub replicate_next : (k : ℕ) → replicate k false ++ false ∷ [] ≡ replicate (suc k) false
-replicate_next k = replicate-append-replicate k 1 false ∙ (let e : k + 1 ≡ suc k = omega arith in ap (λ (n : ℕ). replicate n false) e)
+replicate_next k =
+    replicate-append-replicate k 1 false ∙
+    (let e : k + 1 ≡ suc k = omega arith in ap (λ (n : ℕ). replicate n false) e)
 
 -- ---- the front of a run
 

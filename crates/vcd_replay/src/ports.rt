@@ -22,7 +22,8 @@ fn is_named(var: &Var, scope: &[u8], name: &[u8]) -> bool
 pub fn find(vars: &[Var], scope: &[u8], name: &[u8]) -> Option<usize>
     ensures cases { MatchOption result (HasNoVariable vars.now scope.now name.now) (λ place.
         ((var : Var) × (slice_get vars.now place ≡ Some var) × IsNamed scope.now name.now var)
-        × ((k : ℕ) (other : Var) → k < place → slice_get vars.now k ≡ Some other → ¬ IsNamed scope.now name.now other)) }
+        × ((k : ℕ) (other : Var) → k < place → slice_get vars.now k ≡ Some other
+        → ¬ IsNamed scope.now name.now other)) }
 {
     for (place, var) in vars.iter().enumerate() {
         if is_named(var, scope, name) {

@@ -28,8 +28,8 @@ pub fn read_in_pieces(alloc: Global, text: &[u8], size: usize) -> Result<Vcd, Vc
     reader.finish()
 }
 
-/// What is wrong with a text, whole or in pieces of one, two or seven bytes; None also where the answers differ, or where
-/// it is right.
+/// What is wrong with a text, whole or in pieces of one, two or seven bytes; None also where the answers differ, or
+/// where it is right.
 pub fn fault_of(alloc: Global, text: &[u8]) -> Option<VcdError> {
     let whole = error_of(Vcd::read(alloc, text));
     let ones = error_of(read_in_pieces(alloc, text, 1));
