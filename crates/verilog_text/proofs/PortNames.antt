@@ -1,4 +1,4 @@
--- The names `a` and `b` are usable, and the ports of the tests may be those of a module.
+-- The name `a` is usable.
 use Rattle.std.proofs.Common.{◌≡◌, ℕ, zero, suc, true, Bool, List, [], ◌∷◌, refl, ap, arith}
 use Rattle.std.specs.Prelude.{◌≢◌, not, bytes_eq, Contains, codes, All, AllPairs, Option, IfSome, slice_index}
 use Rattle.std.specs.List.{list_all}
@@ -6,7 +6,6 @@ use Rattle.std.proofs.lemmas.List.Elements.{All-contains}
 use Rattle.std.proofs.lemmas.List.Sums.{AllPass-from_list_all}
 use Rattle.psl_model.specs.Reserved.{language_words, left_out_words, verilog_words}
 use Rattle.psl_model.specs.Names.{IsUsableName, IsReport}
-use Rattle.verilog_text.specs.Examples.{a_and_b}
 use Rattle.verilog_text.specs.Interface.{IsInterface}
 use Rattle.verilog_text.specs.Module.{IsPort}
 
