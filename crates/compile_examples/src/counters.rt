@@ -1,5 +1,5 @@
-//! A counter plus 1, compared with 0: `always !(cnt + 1 == 0)`, with numbers without a size, which have 32 bits, and with
-//! numbers of four bits. Texts and answers were worked out by hand.
+//! A counter plus 1, compared with 0: `always !(cnt + 1 == 0)`, with numbers without a size, which have 32 bits, and
+//! with numbers of four bits. Texts and answers were worked out by hand.
 
 ghost use Rattle.std.specs.Prelude.{◌≡◌, [], ◌∷◌, IfOk};
 ghost use Rattle.psl_model.specs.Expr as tree;
