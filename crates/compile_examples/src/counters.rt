@@ -116,7 +116,14 @@ fn a_number_without_a_size_is_written_so(rt: HostRuntime) -> Result<(), Fail> {
 #[test]
 fn a_number_without_a_size_widens_the_sum(rt: HostRuntime) -> Result<(), Fail> {
     let base = plain(rt.alloc())?;
-    assert!(rt; answers_so(rt.alloc(), &base, COUNTS, [false, false, false, false, false]));
+    assert!(rt;
+        answers_so(
+            rt.alloc(),
+            &base,
+            COUNTS,
+            [false, false, false, false, false]
+        )
+    );
     Ok(())
 }
 

@@ -86,6 +86,13 @@ fn each_operator_has_its_wires(rt: HostRuntime) -> Result<(), Fail> {
 #[test]
 fn the_inner_always_is_open_from_its_test_on(rt: HostRuntime) -> Result<(), Fail> {
     let base = nested(rt.alloc())?;
-    assert!(rt; answers_so(rt.alloc(), &base, [2, 1, 4, 2, 8], [false, false, false, true, false]));
+    assert!(rt;
+        answers_so(
+            rt.alloc(),
+            &base,
+            [2, 1, 4, 2, 8],
+            [false, false, false, true, false]
+        )
+    );
     Ok(())
 }
