@@ -1,5 +1,5 @@
 use Rattle.std.proofs.Common.{refl, arith}
-use Rattle.sere_automata.proofs.tests.together.Goals as goal
+use Rattle.automata_examples.proofs.tables.together.Goals as goal
 
 pub materialise-requires : goal.materialise-requires
 materialise-requires c =

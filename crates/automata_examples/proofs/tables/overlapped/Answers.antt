@@ -1,7 +1,7 @@
 use Rattle.std.proofs.Common.{◌<◌, length, refl, arith, subst}
 use Rattle.auto_core.specs.Edges.{HasAtMost}
 use Rattle.auto_core.specs.Graph.{Graph, graph_machine}
-use Rattle.sere_automata.proofs.tests.overlapped.Goals as goal
+use Rattle.automata_examples.proofs.tables.overlapped.Goals as goal
 
 pub materialise-requires : goal.materialise-requires
 materialise-requires c =

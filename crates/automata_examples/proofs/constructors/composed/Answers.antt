@@ -1,4 +1,4 @@
-use Rattle.sere_automata.proofs.tests.composed.Goals as goal
+use Rattle.automata_examples.proofs.constructors.composed.Goals as goal
 
 pub returns : goal.returns
 returns c = λ w.

@@ -1,5 +1,5 @@
 use Rattle.std.proofs.Common.{refl, arith}
-use Rattle.sere_automata.proofs.tests.again_and_again.Goals as goal
+use Rattle.automata_examples.proofs.tables.again_and_again.Goals as goal
 
 pub materialise-requires : goal.materialise-requires
 materialise-requires c =
