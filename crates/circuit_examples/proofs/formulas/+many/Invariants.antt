@@ -1,4 +1,4 @@
-use Rattle.property_circuits.proofs.tests.+many.Given as goal
+use Rattle.circuit_examples.proofs.formulas.+many.Given as goal
 
 abbrev pub decreases-many : goal.decreases-many
 decreases-many l = l.depth
