@@ -1,202 +1,128 @@
-//! The base form of each kind of formula, by what it prints: `Whole(0)` is `a`, `Whole(1)` is `b`, and a number of one
-//! bit is a truth value.
+//! The base form of each kind of formula.
 
 use crate::formulas::{Binary, Operand, Unary, make_binary, make_operand, make_unary, sequence};
+use crate::told::{Body, Told, Word, is_told};
 use psl_model::{Formula, Reach};
-use psl_rewrite::{Base, rewrite};
+use psl_rewrite::rewrite;
 use std::alloc::{AllocError, Global};
 use std::test::Fail;
 
-const SEQUENCES: [(bool, &str); 2] = [
-    (false, "Seq { sere: Bool(Whole(0)), strong: false }"),
-    (true, "Seq { sere: Bool(Whole(0)), strong: true }"),
-];
+const A: Body = Body::Bool(Word::A);
 
-const UNARY: [(Unary, Operand, &str); 9] = [
-    (
-        Unary::Not,
-        Operand::A,
-        "Bool(Unary(Not, Subexpr { node: Whole(0) }))",
-    ),
-    (
-        Unary::Always,
-        Operand::A,
-        "Always(Subbase { node: Bool(Whole(0)) })",
-    ),
+const B: Body = Body::Bool(Word::B);
+
+const NOT_B: Body = Body::Bool(Word::NotB);
+
+const UNARY: [(Unary, Operand, Told); 9] = [
+    (Unary::Not, Operand::A, Told::Bool(Word::NotA)),
+    (Unary::Always, Operand::A, Told::Always(A)),
     (
         Unary::Never,
         Operand::A,
-        "Always(Subbase { node: Bool(Unary(Not, Subexpr { node: Whole(0) })) })",
+        Told::Always(Body::Bool(Word::NotA)),
     ),
-    (
-        Unary::Never,
-        Operand::Sequence,
-        "Always(Subbase { node: Suffix(Bool(Whole(0)), Subbase { node: Bool(Sized(1, 0)) }) })",
-    ),
+    (Unary::Never, Operand::Sequence, Told::Always(Body::NoA)),
     (
         Unary::Eventually,
         Operand::A,
-        "Until { strong: true, body: Subbase { node: Bool(Sized(1, 1)) }, stop: Whole(0) }",
+        Told::Until(true, Body::Bool(Word::True), Word::A),
     ),
-    (
-        Unary::Eventually,
-        Operand::Sequence,
-        "Eventually(Bool(Whole(0)))",
-    ),
-    (
-        Unary::Suffix,
-        Operand::AlwaysB,
-        "Suffix(Bool(Whole(0)), Subbase { node: Always(Subbase { node: Bool(Whole(1)) }) })",
-    ),
+    (Unary::Eventually, Operand::Sequence, Told::EventuallyA),
+    (Unary::Suffix, Operand::AlwaysB, Told::Suffix(Body::AlwaysB)),
     (
         Unary::LaterSuffix,
-        Operand::B,
-        concat!(
-            "Suffix(Then(Subsere { node: Bool(Whole(0)) }, Subsere { node: Bool(Sized(1, 1)) }), ",
-            "Subbase { node: Bool(Whole(1)) })"
-        ),
+        Operand::AlwaysB,
+        Told::LaterSuffix(Body::AlwaysB),
     ),
     (
         Unary::AbortByA,
         Operand::AlwaysB,
-        "Abort(Subbase { node: Always(Subbase { node: Bool(Whole(1)) }) }, Whole(0))",
+        Told::AbortByA(Body::AlwaysB),
     ),
 ];
 
 // over `b`
-const RANGES: [(Unary, &str); 6] = [
-    (
-        Unary::Next(Reach::One, false),
-        "Next { strong: false, count: 2, body: Subbase { node: Bool(Whole(1)) } }",
-    ),
-    (
-        Unary::Next(Reach::All, true),
-        "NextAll { strong: true, low: 2, high: 3, body: Subbase { node: Bool(Whole(1)) } }",
-    ),
+const RANGES: [(Unary, Told); 6] = [
+    (Unary::Next(Reach::One, false), Told::Next(false, 2, B)),
+    (Unary::Next(Reach::All, true), Told::NextAll(true, 3, B)),
     (
         Unary::Next(Reach::Some, false),
-        "NextSome { strong: false, low: 2, high: 3, seen: Whole(1) }",
+        Told::NextSome(false, 3, Word::B),
     ),
     (
         Unary::EventOfA(Reach::One, false),
-        "Event { strong: false, on: Whole(0), low: 2, high: 2, body: Subbase { node: Bool(Whole(1)) } }",
+        Told::EventOfA(false, 2, B),
     ),
     (
         Unary::EventOfA(Reach::All, true),
-        "Event { strong: true, on: Whole(0), low: 2, high: 3, body: Subbase { node: Bool(Whole(1)) } }",
+        Told::EventOfA(true, 3, B),
     ),
     (
         Unary::EventOfA(Reach::Some, false),
-        "EventSome { strong: false, on: Whole(0), low: 2, high: 3, seen: Whole(1) }",
+        Told::EventOfASome(false, 3, Word::B),
     ),
 ];
 
-const CONNECTIVES: [(Binary, Operand, Operand, &str); 5] = [
+const CONNECTIVES: [(Binary, Operand, Operand, Told); 5] = [
     (
         Binary::And,
         Operand::A,
         Operand::AlwaysB,
-        "And(Subbase { node: Bool(Whole(0)) }, Subbase { node: Always(Subbase { node: Bool(Whole(1)) }) })",
+        Told::And(A, Body::AlwaysB),
     ),
-    (
-        Binary::Or,
-        Operand::A,
-        Operand::B,
-        "OrBool(Whole(0), Subbase { node: Bool(Whole(1)) })",
-    ),
+    (Binary::Or, Operand::A, Operand::B, Told::Or(Word::A, B)),
     (
         Binary::Or,
         Operand::AlwaysB,
         Operand::A,
-        "OrBool(Whole(0), Subbase { node: Always(Subbase { node: Bool(Whole(1)) }) })",
+        Told::Or(Word::A, Body::AlwaysB),
     ),
     (
         Binary::Implies,
         Operand::A,
         Operand::AlwaysB,
-        "Implies(Whole(0), Subbase { node: Always(Subbase { node: Bool(Whole(1)) }) })",
+        Told::Implies(Word::A, Body::AlwaysB),
     ),
-    (
-        Binary::Iff,
-        Operand::A,
-        Operand::B,
-        concat!(
-            "Bool(Binary(Eq, Subexpr { node: Unary(Not, Subexpr { node: Whole(0) }) }, ",
-            "Subexpr { node: Unary(Not, Subexpr { node: Whole(1) }) }))"
-        ),
-    ),
+    (Binary::Iff, Operand::A, Operand::B, Told::Bool(Word::Same)),
 ];
 
 // of `a` and `b`
-const UNTIL: [(Binary, &str); 8] = [
-    (
-        Binary::Until(false, false),
-        "Until { strong: false, body: Subbase { node: Bool(Whole(0)) }, stop: Whole(1) }",
-    ),
+const UNTIL: [(Binary, Told); 8] = [
+    (Binary::Until(false, false), Told::Until(false, A, Word::B)),
     (
         Binary::Until(false, true),
-        concat!(
-            "Until { strong: false, body: Subbase { node: Bool(Whole(0)) }, ",
-            "stop: Binary(And, Subexpr { node: Whole(0) }, Subexpr { node: Whole(1) }) }"
-        ),
+        Told::Until(false, A, Word::AAndB),
     ),
-    (
-        Binary::Until(true, false),
-        "Until { strong: true, body: Subbase { node: Bool(Whole(0)) }, stop: Whole(1) }",
-    ),
-    (
-        Binary::Until(true, true),
-        concat!(
-            "Until { strong: true, body: Subbase { node: Bool(Whole(0)) }, ",
-            "stop: Binary(And, Subexpr { node: Whole(0) }, Subexpr { node: Whole(1) }) }"
-        ),
-    ),
+    (Binary::Until(true, false), Told::Until(true, A, Word::B)),
+    (Binary::Until(true, true), Told::Until(true, A, Word::AAndB)),
     (
         Binary::Before(false, false),
-        concat!(
-            "Until { strong: false, body: Subbase { node: Bool(Unary(Not, Subexpr { node: Whole(1) })) }, ",
-            "stop: Binary(And, Subexpr { node: Whole(0) }, Subexpr { node: Unary(Not, Subexpr { node: Whole(1) }) }) }"
-        ),
+        Told::Until(false, NOT_B, Word::AAndNotB),
     ),
     (
         Binary::Before(false, true),
-        concat!(
-            "Until { strong: false, body: Subbase { node: Bool(Unary(Not, Subexpr { node: Whole(1) })) }, ",
-            "stop: Whole(0) }"
-        ),
+        Told::Until(false, NOT_B, Word::A),
     ),
     (
         Binary::Before(true, false),
-        concat!(
-            "Until { strong: true, body: Subbase { node: Bool(Unary(Not, Subexpr { node: Whole(1) })) }, ",
-            "stop: Binary(And, Subexpr { node: Whole(0) }, Subexpr { node: Unary(Not, Subexpr { node: Whole(1) }) }) }"
-        ),
+        Told::Until(true, NOT_B, Word::AAndNotB),
     ),
     (
         Binary::Before(true, true),
-        concat!(
-            "Until { strong: true, body: Subbase { node: Bool(Unary(Not, Subexpr { node: Whole(1) })) }, ",
-            "stop: Whole(0) }"
-        ),
+        Told::Until(true, NOT_B, Word::A),
     ),
 ];
 
-fn prints(alloc: Global, base: &Base, told: &str) -> Result<bool, AllocError> {
-    let text = format!(in alloc; "{base:?}")?;
-    Ok(text.as_str() == told)
-}
-
-// Whether the base form of the formula prints as this text.
-fn has_base_form(alloc: Global, formula: &Formula, told: &str) -> Result<bool, AllocError> {
+fn has_base_form(alloc: Global, formula: &Formula, told: Told) -> Result<bool, AllocError> {
     let base = rewrite(alloc, formula)?;
-    prints(alloc, &base, told)
+    Ok(is_told(&base, told))
 }
 
 fn unary_has(
     alloc: Global,
     operator: Unary,
     kind: Operand,
-    told: &str,
+    told: Told,
 ) -> Result<bool, AllocError> {
     let body = make_operand(alloc, kind)?;
     let formula = make_unary(operator, body);
@@ -208,7 +134,7 @@ fn binary_has(
     operator: Binary,
     left: Operand,
     right: Operand,
-    told: &str,
+    told: Told,
 ) -> Result<bool, AllocError> {
     let left = make_operand(alloc, left)?;
     let right = make_operand(alloc, right)?;
@@ -218,10 +144,9 @@ fn binary_has(
 
 #[test]
 fn a_sequence_keeps_its_mark(rt: HostRuntime) -> Result<(), Fail> {
-    for (strong, told) in SEQUENCES {
+    for strong in [false, true] {
         let formula = sequence(strong);
-        let seen = has_base_form(rt.alloc(), &formula, told)?;
-        assert!(rt; seen, "{told}");
+        assert!(rt; has_base_form(rt.alloc(), &formula, Told::Seq(strong))?);
     }
     Ok(())
 }
@@ -229,8 +154,7 @@ fn a_sequence_keeps_its_mark(rt: HostRuntime) -> Result<(), Fail> {
 #[test]
 fn operators_on_one_formula_have_their_base_forms(rt: HostRuntime) -> Result<(), Fail> {
     for (operator, kind, told) in UNARY {
-        let seen = unary_has(rt.alloc(), operator, kind, told)?;
-        assert!(rt; seen, "{operator:?} over {kind:?}");
+        assert!(rt; unary_has(rt.alloc(), operator, kind, told)?);
     }
     Ok(())
 }
@@ -238,8 +162,7 @@ fn operators_on_one_formula_have_their_base_forms(rt: HostRuntime) -> Result<(),
 #[test]
 fn ranges_have_their_base_forms(rt: HostRuntime) -> Result<(), Fail> {
     for (operator, told) in RANGES {
-        let seen = unary_has(rt.alloc(), operator, Operand::B, told)?;
-        assert!(rt; seen, "{operator:?}");
+        assert!(rt; unary_has(rt.alloc(), operator, Operand::B, told)?);
     }
     Ok(())
 }
@@ -247,8 +170,7 @@ fn ranges_have_their_base_forms(rt: HostRuntime) -> Result<(), Fail> {
 #[test]
 fn connectives_have_their_base_forms(rt: HostRuntime) -> Result<(), Fail> {
     for (operator, left, right, told) in CONNECTIVES {
-        let seen = binary_has(rt.alloc(), operator, left, right, told)?;
-        assert!(rt; seen, "{operator:?} of {left:?} and {right:?}");
+        assert!(rt; binary_has(rt.alloc(), operator, left, right, told)?);
     }
     Ok(())
 }
@@ -256,8 +178,7 @@ fn connectives_have_their_base_forms(rt: HostRuntime) -> Result<(), Fail> {
 #[test]
 fn until_and_before_have_their_base_forms(rt: HostRuntime) -> Result<(), Fail> {
     for (operator, told) in UNTIL {
-        let seen = binary_has(rt.alloc(), operator, Operand::A, Operand::B, told)?;
-        assert!(rt; seen, "{operator:?}");
+        assert!(rt; binary_has(rt.alloc(), operator, Operand::A, Operand::B, told)?);
     }
     Ok(())
 }

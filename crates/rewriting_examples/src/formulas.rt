@@ -4,7 +4,7 @@ use psl_model::{Expr, Formula, Reach, Sere, Subformula};
 use std::alloc::{AllocError, Global};
 
 /// What stands under an operator.
-#[derive(Clone, Copy, Debug, Drop)]
+#[derive(Clone, Copy, Drop)]
 pub(crate) enum Operand {
     A,
     B,
@@ -13,7 +13,7 @@ pub(crate) enum Operand {
 }
 
 /// An operator on one formula. Those with a range speak of cycles 2 to 3.
-#[derive(Clone, Copy, Debug, Drop)]
+#[derive(Clone, Copy, Drop)]
 pub(crate) enum Unary {
     Not,
     Always,
@@ -27,7 +27,7 @@ pub(crate) enum Unary {
 }
 
 /// An operator on two formulas. Of those with two marks, the first tells the strong form and the second the overlap.
-#[derive(Clone, Copy, Debug, Drop)]
+#[derive(Clone, Copy, Drop)]
 pub(crate) enum Binary {
     And,
     Or,

@@ -7,4 +7,6 @@ mod base_forms;
 #[cfg(test)]
 mod formulas;
 #[cfg(test)]
+mod told;
+#[cfg(test)]
 mod trees;
