@@ -13,106 +13,6 @@ const B: Body = Body::Bool(Word::B);
 
 const NOT_B: Body = Body::Bool(Word::NotB);
 
-const UNARY: [(Unary, Operand, Told); 9] = [
-    (Unary::Not, Operand::A, Told::Bool(Word::NotA)),
-    (Unary::Always, Operand::A, Told::Always(A)),
-    (
-        Unary::Never,
-        Operand::A,
-        Told::Always(Body::Bool(Word::NotA)),
-    ),
-    (Unary::Never, Operand::Sequence, Told::Always(Body::NoA)),
-    (
-        Unary::Eventually,
-        Operand::A,
-        Told::Until(true, Body::Bool(Word::True), Word::A),
-    ),
-    (Unary::Eventually, Operand::Sequence, Told::EventuallyA),
-    (Unary::Suffix, Operand::AlwaysB, Told::Suffix(Body::AlwaysB)),
-    (
-        Unary::LaterSuffix,
-        Operand::AlwaysB,
-        Told::LaterSuffix(Body::AlwaysB),
-    ),
-    (
-        Unary::AbortByA,
-        Operand::AlwaysB,
-        Told::AbortByA(Body::AlwaysB),
-    ),
-];
-
-// over `b`
-const RANGES: [(Unary, Told); 6] = [
-    (Unary::Next(Reach::One, false), Told::Next(false, 2, B)),
-    (Unary::Next(Reach::All, true), Told::NextAll(true, 3, B)),
-    (
-        Unary::Next(Reach::Some, false),
-        Told::NextSome(false, 3, Word::B),
-    ),
-    (
-        Unary::EventOfA(Reach::One, false),
-        Told::EventOfA(false, 2, B),
-    ),
-    (
-        Unary::EventOfA(Reach::All, true),
-        Told::EventOfA(true, 3, B),
-    ),
-    (
-        Unary::EventOfA(Reach::Some, false),
-        Told::EventOfASome(false, 3, Word::B),
-    ),
-];
-
-const CONNECTIVES: [(Binary, Operand, Operand, Told); 5] = [
-    (
-        Binary::And,
-        Operand::A,
-        Operand::AlwaysB,
-        Told::And(A, Body::AlwaysB),
-    ),
-    (Binary::Or, Operand::A, Operand::B, Told::Or(Word::A, B)),
-    (
-        Binary::Or,
-        Operand::AlwaysB,
-        Operand::A,
-        Told::Or(Word::A, Body::AlwaysB),
-    ),
-    (
-        Binary::Implies,
-        Operand::A,
-        Operand::AlwaysB,
-        Told::Implies(Word::A, Body::AlwaysB),
-    ),
-    (Binary::Iff, Operand::A, Operand::B, Told::Bool(Word::Same)),
-];
-
-// of `a` and `b`
-const UNTIL: [(Binary, Told); 8] = [
-    (Binary::Until(false, false), Told::Until(false, A, Word::B)),
-    (
-        Binary::Until(false, true),
-        Told::Until(false, A, Word::AAndB),
-    ),
-    (Binary::Until(true, false), Told::Until(true, A, Word::B)),
-    (Binary::Until(true, true), Told::Until(true, A, Word::AAndB)),
-    (
-        Binary::Before(false, false),
-        Told::Until(false, NOT_B, Word::AAndNotB),
-    ),
-    (
-        Binary::Before(false, true),
-        Told::Until(false, NOT_B, Word::A),
-    ),
-    (
-        Binary::Before(true, false),
-        Told::Until(true, NOT_B, Word::AAndNotB),
-    ),
-    (
-        Binary::Before(true, true),
-        Told::Until(true, NOT_B, Word::A),
-    ),
-];
-
 fn has_base_form(alloc: Global, formula: &Formula, told: Told) -> Result<bool, AllocError> {
     let base = rewrite(alloc, formula)?;
     Ok(is_told(&base, told))
@@ -152,33 +52,364 @@ fn a_sequence_keeps_its_mark(rt: HostRuntime) -> Result<(), Fail> {
 }
 
 #[test]
-fn operators_on_one_formula_have_their_base_forms(rt: HostRuntime) -> Result<(), Fail> {
-    for (operator, kind, told) in UNARY {
-        assert!(rt; unary_has(rt.alloc(), operator, kind, told)?);
-    }
+fn a_negation_has_its_base_form(rt: HostRuntime) -> Result<(), Fail> {
+    assert!(rt; unary_has(rt.alloc(), Unary::Not, Operand::A, Told::Bool(Word::NotA))?);
     Ok(())
 }
 
 #[test]
-fn ranges_have_their_base_forms(rt: HostRuntime) -> Result<(), Fail> {
-    for (operator, told) in RANGES {
-        assert!(rt; unary_has(rt.alloc(), operator, Operand::B, told)?);
-    }
+fn always_has_its_base_form(rt: HostRuntime) -> Result<(), Fail> {
+    assert!(rt; unary_has(rt.alloc(), Unary::Always, Operand::A, Told::Always(A))?);
     Ok(())
 }
 
 #[test]
-fn connectives_have_their_base_forms(rt: HostRuntime) -> Result<(), Fail> {
-    for (operator, left, right, told) in CONNECTIVES {
-        assert!(rt; binary_has(rt.alloc(), operator, left, right, told)?);
-    }
+fn never_a_boolean_has_its_base_form(rt: HostRuntime) -> Result<(), Fail> {
+    assert!(rt;
+        unary_has(
+            rt.alloc(),
+            Unary::Never,
+            Operand::A,
+            Told::Always(Body::Bool(Word::NotA))
+        )?
+    );
     Ok(())
 }
 
 #[test]
-fn until_and_before_have_their_base_forms(rt: HostRuntime) -> Result<(), Fail> {
-    for (operator, told) in UNTIL {
-        assert!(rt; binary_has(rt.alloc(), operator, Operand::A, Operand::B, told)?);
-    }
+fn never_a_sequence_has_its_base_form(rt: HostRuntime) -> Result<(), Fail> {
+    assert!(rt;
+        unary_has(
+            rt.alloc(),
+            Unary::Never,
+            Operand::Sequence,
+            Told::Always(Body::NoA)
+        )?
+    );
+    Ok(())
+}
+
+#[test]
+fn eventually_a_boolean_has_its_base_form(rt: HostRuntime) -> Result<(), Fail> {
+    assert!(rt;
+        unary_has(
+            rt.alloc(),
+            Unary::Eventually,
+            Operand::A,
+            Told::Until(true, Body::Bool(Word::True), Word::A)
+        )?
+    );
+    Ok(())
+}
+
+#[test]
+fn eventually_a_sequence_has_its_base_form(rt: HostRuntime) -> Result<(), Fail> {
+    assert!(rt;
+        unary_has(
+            rt.alloc(),
+            Unary::Eventually,
+            Operand::Sequence,
+            Told::EventuallyA
+        )?
+    );
+    Ok(())
+}
+
+#[test]
+fn a_suffix_has_its_base_form(rt: HostRuntime) -> Result<(), Fail> {
+    assert!(rt;
+        unary_has(
+            rt.alloc(),
+            Unary::Suffix,
+            Operand::AlwaysB,
+            Told::Suffix(Body::AlwaysB)
+        )?
+    );
+    Ok(())
+}
+
+#[test]
+fn a_later_suffix_has_its_base_form(rt: HostRuntime) -> Result<(), Fail> {
+    assert!(rt;
+        unary_has(
+            rt.alloc(),
+            Unary::LaterSuffix,
+            Operand::AlwaysB,
+            Told::LaterSuffix(Body::AlwaysB)
+        )?
+    );
+    Ok(())
+}
+
+#[test]
+fn an_abort_has_its_base_form(rt: HostRuntime) -> Result<(), Fail> {
+    assert!(rt;
+        unary_has(
+            rt.alloc(),
+            Unary::AbortByA,
+            Operand::AlwaysB,
+            Told::AbortByA(Body::AlwaysB)
+        )?
+    );
+    Ok(())
+}
+
+#[test]
+fn next_has_its_base_form(rt: HostRuntime) -> Result<(), Fail> {
+    assert!(rt;
+        unary_has(
+            rt.alloc(),
+            Unary::Next(Reach::One, false),
+            Operand::B,
+            Told::Next(false, 2, B)
+        )?
+    );
+    Ok(())
+}
+
+#[test]
+fn next_in_each_cycle_has_its_base_form(rt: HostRuntime) -> Result<(), Fail> {
+    assert!(rt;
+        unary_has(
+            rt.alloc(),
+            Unary::Next(Reach::All, true),
+            Operand::B,
+            Told::NextAll(true, 3, B)
+        )?
+    );
+    Ok(())
+}
+
+#[test]
+fn next_in_some_cycle_has_its_base_form(rt: HostRuntime) -> Result<(), Fail> {
+    assert!(rt;
+        unary_has(
+            rt.alloc(),
+            Unary::Next(Reach::Some, false),
+            Operand::B,
+            Told::NextSome(false, 3, Word::B)
+        )?
+    );
+    Ok(())
+}
+
+#[test]
+fn an_event_has_its_base_form(rt: HostRuntime) -> Result<(), Fail> {
+    assert!(rt;
+        unary_has(
+            rt.alloc(),
+            Unary::EventOfA(Reach::One, false),
+            Operand::B,
+            Told::EventOfA(false, 2, B)
+        )?
+    );
+    Ok(())
+}
+
+#[test]
+fn each_event_has_its_base_form(rt: HostRuntime) -> Result<(), Fail> {
+    assert!(rt;
+        unary_has(
+            rt.alloc(),
+            Unary::EventOfA(Reach::All, true),
+            Operand::B,
+            Told::EventOfA(true, 3, B)
+        )?
+    );
+    Ok(())
+}
+
+#[test]
+fn some_event_has_its_base_form(rt: HostRuntime) -> Result<(), Fail> {
+    assert!(rt;
+        unary_has(
+            rt.alloc(),
+            Unary::EventOfA(Reach::Some, false),
+            Operand::B,
+            Told::EventOfASome(false, 3, Word::B)
+        )?
+    );
+    Ok(())
+}
+
+#[test]
+fn a_conjunction_has_its_base_form(rt: HostRuntime) -> Result<(), Fail> {
+    assert!(rt;
+        binary_has(
+            rt.alloc(),
+            Binary::And,
+            Operand::A,
+            Operand::AlwaysB,
+            Told::And(A, Body::AlwaysB)
+        )?
+    );
+    Ok(())
+}
+
+#[test]
+fn an_alternative_has_its_base_form(rt: HostRuntime) -> Result<(), Fail> {
+    assert!(rt;
+        binary_has(
+            rt.alloc(),
+            Binary::Or,
+            Operand::A,
+            Operand::B,
+            Told::Or(Word::A, B)
+        )?
+    );
+    Ok(())
+}
+
+#[test]
+fn an_alternative_with_its_boolean_last_has_its_base_form(rt: HostRuntime) -> Result<(), Fail> {
+    assert!(rt;
+        binary_has(
+            rt.alloc(),
+            Binary::Or,
+            Operand::AlwaysB,
+            Operand::A,
+            Told::Or(Word::A, Body::AlwaysB)
+        )?
+    );
+    Ok(())
+}
+
+#[test]
+fn an_implication_has_its_base_form(rt: HostRuntime) -> Result<(), Fail> {
+    assert!(rt;
+        binary_has(
+            rt.alloc(),
+            Binary::Implies,
+            Operand::A,
+            Operand::AlwaysB,
+            Told::Implies(Word::A, Body::AlwaysB)
+        )?
+    );
+    Ok(())
+}
+
+#[test]
+fn an_equivalence_has_its_base_form(rt: HostRuntime) -> Result<(), Fail> {
+    assert!(rt;
+        binary_has(
+            rt.alloc(),
+            Binary::Iff,
+            Operand::A,
+            Operand::B,
+            Told::Bool(Word::Same)
+        )?
+    );
+    Ok(())
+}
+
+#[test]
+fn until_has_its_base_form(rt: HostRuntime) -> Result<(), Fail> {
+    assert!(rt;
+        binary_has(
+            rt.alloc(),
+            Binary::Until(false, false),
+            Operand::A,
+            Operand::B,
+            Told::Until(false, A, Word::B)
+        )?
+    );
+    Ok(())
+}
+
+#[test]
+fn until_with_the_overlap_has_its_base_form(rt: HostRuntime) -> Result<(), Fail> {
+    assert!(rt;
+        binary_has(
+            rt.alloc(),
+            Binary::Until(false, true),
+            Operand::A,
+            Operand::B,
+            Told::Until(false, A, Word::AAndB)
+        )?
+    );
+    Ok(())
+}
+
+#[test]
+fn a_strong_until_has_its_base_form(rt: HostRuntime) -> Result<(), Fail> {
+    assert!(rt;
+        binary_has(
+            rt.alloc(),
+            Binary::Until(true, false),
+            Operand::A,
+            Operand::B,
+            Told::Until(true, A, Word::B)
+        )?
+    );
+    Ok(())
+}
+
+#[test]
+fn a_strong_until_with_the_overlap_has_its_base_form(rt: HostRuntime) -> Result<(), Fail> {
+    assert!(rt;
+        binary_has(
+            rt.alloc(),
+            Binary::Until(true, true),
+            Operand::A,
+            Operand::B,
+            Told::Until(true, A, Word::AAndB)
+        )?
+    );
+    Ok(())
+}
+
+#[test]
+fn before_has_its_base_form(rt: HostRuntime) -> Result<(), Fail> {
+    assert!(rt;
+        binary_has(
+            rt.alloc(),
+            Binary::Before(false, false),
+            Operand::A,
+            Operand::B,
+            Told::Until(false, NOT_B, Word::AAndNotB)
+        )?
+    );
+    Ok(())
+}
+
+#[test]
+fn before_with_the_overlap_has_its_base_form(rt: HostRuntime) -> Result<(), Fail> {
+    assert!(rt;
+        binary_has(
+            rt.alloc(),
+            Binary::Before(false, true),
+            Operand::A,
+            Operand::B,
+            Told::Until(false, NOT_B, Word::A)
+        )?
+    );
+    Ok(())
+}
+
+#[test]
+fn a_strong_before_has_its_base_form(rt: HostRuntime) -> Result<(), Fail> {
+    assert!(rt;
+        binary_has(
+            rt.alloc(),
+            Binary::Before(true, false),
+            Operand::A,
+            Operand::B,
+            Told::Until(true, NOT_B, Word::AAndNotB)
+        )?
+    );
+    Ok(())
+}
+
+#[test]
+fn a_strong_before_with_the_overlap_has_its_base_form(rt: HostRuntime) -> Result<(), Fail> {
+    assert!(rt;
+        binary_has(
+            rt.alloc(),
+            Binary::Before(true, true),
+            Operand::A,
+            Operand::B,
+            Told::Until(true, NOT_B, Word::A)
+        )?
+    );
     Ok(())
 }
