@@ -16,6 +16,3 @@ pub use exploring::{TableError, materialise};
 pub use indexed::IndexedTable;
 pub use labels::{Label, Literal};
 pub use tables::{Edge, Table};
-
-#[cfg(test)]
-mod tests;

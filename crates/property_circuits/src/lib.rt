@@ -7,6 +7,3 @@ pub mod laws;
 mod parts;
 
 pub use circuits::{Circuit, CircuitError, check_circuit};
-
-#[cfg(test)]
-mod tests;

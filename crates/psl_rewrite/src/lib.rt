@@ -10,8 +10,3 @@ pub mod violations;
 pub use base::{Base, Subbase};
 pub use core_sequences::{CoreSere, Subcore};
 pub use rewriting::rewrite;
-
-#[cfg(test)]
-mod base_forms;
-#[cfg(test)]
-mod tests;

@@ -4,10 +4,11 @@ ghost use Rattle.std.specs.Prelude.{◌≡◌, ◌+◌, ℕ, List, IfOk};
 ghost use Rattle.psl_model.specs.View.{expr_of, sere_of, formula_of};
 ghost use Rattle.simple_subset.specs.Subset.{InSubset};
 ghost use Rattle.psl_rewrite.specs.View.{base_of};
+ghost use Rattle.psl_rewrite.specs.Base.{until};
 ghost use Rattle.psl_rewrite.specs.Meaning.{named};
 ghost use Rattle.psl_rewrite.specs.BaseForm.{as_expr, not_expr, and_expr, iff_expr, suffix_sere, never_form};
-ghost use Rattle.psl_rewrite.specs.BaseForm.{eventually_form, next_form, stop_of, before_form};
-ghost use Rattle.psl_rewrite.specs.BaseForm.{base_form_of};
+ghost use Rattle.psl_rewrite.specs.BaseForm.{eventually_form, next_form, event_form, stop_of};
+ghost use Rattle.psl_rewrite.specs.BaseForm.{before_form, base_form_of};
 ghost use Rattle.psl_rewrite.specs.SameMeaning.{MeanTheSame};
 ghost use Rattle.psl_rewrite.specs.Conditions.{IsAllowed, FormulaHas, BaseHas, FormulaCounts, BaseCounts};
 ghost use Rattle.psl_rewrite.specs.Conditions.{formula_sequences, base_sequences};
@@ -82,42 +83,15 @@ fn form(alloc: Global, formula: &Formula) -> Result<Base, AllocError>
             low,
             high,
             body,
-        } => match reach {
-            Reach::One => Ok(Base::Event {
-                strong: *strong,
-                on: on.copy(alloc)?,
-                low: *low,
-                high: *low,
-                body: part(alloc, body)?,
-            }),
-            Reach::All => Ok(Base::Event {
-                strong: *strong,
-                on: on.copy(alloc)?,
-                low: *low,
-                high: *high,
-                body: part(alloc, body)?,
-            }),
-            Reach::Some => Ok(Base::EventSome {
-                strong: *strong,
-                on: on.copy(alloc)?,
-                low: *low,
-                high: *high,
-                seen: as_expr(alloc, body.get())?,
-            }),
-        },
+        } => { event_form(alloc, body, *strong, on, *reach, *low, *high) }
         Formula::Until {
             strong,
             overlap,
             left,
             right,
         } => {
-            let stop = stop_of(alloc, *overlap, left.get(), right.get())?;
             let body = part(alloc, left)?;
-            Ok(Base::Until {
-                strong: *strong,
-                body,
-                stop,
-            })
+            until_form(alloc, *strong, *overlap, body, left.get(), right.get())
         }
         Formula::Before {
             strong,
@@ -163,6 +137,45 @@ fn next_form(
         },
         Reach::Some => Base::NextSome {
             strong,
+            low,
+            high,
+            seen: as_expr(alloc, body.get())?,
+        },
+    })
+}
+
+#[cycle(form)]
+fn event_form(
+    alloc: Global,
+    body: &Subformula,
+    strong: bool,
+    on: &Expr,
+    reach: Reach,
+    low: u32,
+    high: u32,
+) -> Result<Base, AllocError>
+    ensures { IfOk result (λ base.
+        base_of base ≡ event_form reach strong (expr_of on.now) low high body.now (base_form_of body.now)) }
+{
+    let on = on.copy(alloc)?;
+    Ok(match reach {
+        Reach::One => Base::Event {
+            strong,
+            on,
+            low,
+            high: low,
+            body: part(alloc, body)?,
+        },
+        Reach::All => Base::Event {
+            strong,
+            on,
+            low,
+            high,
+            body: part(alloc, body)?,
+        },
+        Reach::Some => Base::EventSome {
+            strong,
+            on,
             low,
             high,
             seen: as_expr(alloc, body.get())?,
@@ -258,6 +271,22 @@ fn eventually_form(alloc: Global, formula: &Formula) -> Result<Base, AllocError>
             stop,
         })
     }
+}
+
+/// An `until` whose left side has this base form.
+fn until_form(
+    alloc: Global,
+    strong: bool,
+    overlap: bool,
+    body: Subbase,
+    left: &Formula,
+    right: &Formula,
+) -> Result<Base, AllocError>
+    ensures { IfOk result (λ base.
+        base_of base ≡ until strong body (stop_of overlap (formula_of left.now) (formula_of right.now))) }
+{
+    let stop = stop_of(alloc, overlap, left, right)?;
+    Ok(Base::Until { strong, body, stop })
 }
 
 /// The Boolean at which an `until` stops.

@@ -8,8 +8,6 @@ mod leaf;
 mod one_of;
 mod repeat;
 mod states;
-#[cfg(test)]
-mod tests;
 
 pub use concat::Concat;
 pub use leaf::Leaf;

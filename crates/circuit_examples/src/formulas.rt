@@ -1,0 +1,110 @@
+//! Formulas over signals of one bit: a, b, the one that starts and the one that clears.
+
+ghost use Rattle.std.specs.Prelude.{◌<◌, [], ◌∷◌, IfOk};
+ghost use Rattle.psl_model.specs.View.{expr_of};
+ghost use Rattle.circuit_core.specs.WellMade.{IsGuard};
+ghost use Rattle.property_circuits.specs.Conditions.{IsBuilt, HasGuards};
+
+use psl_model::Expr;
+use psl_rewrite::{Base, Subbase};
+use std::alloc::{AllocError, Global};
+
+pub(crate) const A: usize = 0;
+
+pub(crate) const B: usize = 1;
+
+pub(crate) const START: usize = 2;
+
+pub(crate) const CLEAR: usize = 3;
+
+pub(crate) fn signal(place: usize) -> Expr
+    requires { place < 4 }
+    ensures { IsGuard (1 ∷ 1 ∷ 1 ∷ 1 ∷ []) (expr_of result) }
+{
+    Expr::Whole(place)
+}
+
+pub(crate) fn holds(alloc: Global, place: usize) -> Result<Subbase, AllocError>
+    requires { place < 4 }
+    ensures built { IfOk result (λ f. IsBuilt f) }
+    ensures guards { IfOk result (λ f. HasGuards (1 ∷ 1 ∷ 1 ∷ 1 ∷ []) f) }
+{
+    Subbase::new(alloc, Base::Bool(signal(place)))
+}
+
+pub(crate) fn always(alloc: Global, body: Subbase) -> Result<Subbase, AllocError>
+    requires built { IsBuilt body }
+    requires guards { HasGuards (1 ∷ 1 ∷ 1 ∷ 1 ∷ []) body }
+    ensures built { IfOk result (λ f. IsBuilt f) }
+    ensures guards { IfOk result (λ f. HasGuards (1 ∷ 1 ∷ 1 ∷ 1 ∷ []) f) }
+{
+    Subbase::new(alloc, Base::Always(body))
+}
+
+pub(crate) fn implies(alloc: Global, place: usize, body: Subbase) -> Result<Subbase, AllocError>
+    requires place { place < 4 }
+    requires built { IsBuilt body }
+    requires guards { HasGuards (1 ∷ 1 ∷ 1 ∷ 1 ∷ []) body }
+    ensures built { IfOk result (λ f. IsBuilt f) }
+    ensures guards { IfOk result (λ f. HasGuards (1 ∷ 1 ∷ 1 ∷ 1 ∷ []) f) }
+{
+    Subbase::new(alloc, Base::Implies(signal(place), body))
+}
+
+pub(crate) fn or(alloc: Global, place: usize, body: Subbase) -> Result<Subbase, AllocError>
+    requires place { place < 4 }
+    requires built { IsBuilt body }
+    requires guards { HasGuards (1 ∷ 1 ∷ 1 ∷ 1 ∷ []) body }
+    ensures built { IfOk result (λ f. IsBuilt f) }
+    ensures guards { IfOk result (λ f. HasGuards (1 ∷ 1 ∷ 1 ∷ 1 ∷ []) f) }
+{
+    Subbase::new(alloc, Base::OrBool(signal(place), body))
+}
+
+pub(crate) fn and(alloc: Global, left: Subbase, right: Subbase) -> Result<Subbase, AllocError>
+    requires left_built { IsBuilt left }
+    requires left_guards { HasGuards (1 ∷ 1 ∷ 1 ∷ 1 ∷ []) left }
+    requires right_built { IsBuilt right }
+    requires right_guards { HasGuards (1 ∷ 1 ∷ 1 ∷ 1 ∷ []) right }
+    ensures built { IfOk result (λ f. IsBuilt f) }
+    ensures guards { IfOk result (λ f. HasGuards (1 ∷ 1 ∷ 1 ∷ 1 ∷ []) f) }
+{
+    Subbase::new(alloc, Base::And(left, right))
+}
+
+// always a signal
+pub(crate) fn always_holds(alloc: Global, place: usize) -> Result<Subbase, AllocError>
+    requires { place < 4 }
+    ensures built { IfOk result (λ f. IsBuilt f) }
+    ensures guards { IfOk result (λ f. HasGuards (1 ∷ 1 ∷ 1 ∷ 1 ∷ []) f) }
+{
+    let body = holds(alloc, place)?;
+    always(alloc, body)
+}
+
+// always (a -> body)
+pub(crate) fn always_after_a(alloc: Global, body: Subbase) -> Result<Subbase, AllocError>
+    requires built { IsBuilt body }
+    requires guards { HasGuards (1 ∷ 1 ∷ 1 ∷ 1 ∷ []) body }
+    ensures built { IfOk result (λ f. IsBuilt f) }
+    ensures guards { IfOk result (λ f. HasGuards (1 ∷ 1 ∷ 1 ∷ 1 ∷ []) f) }
+{
+    let test = implies(alloc, A, body)?;
+    always(alloc, test)
+}
+
+// 2 to the power of `depth` formulas joined by `&&`: `always a`, and once `last`.
+pub(crate) fn many(alloc: Global, depth: u32, last: Subbase) -> Result<Subbase, AllocError>
+    requires built { IsBuilt last }
+    requires guards { HasGuards (1 ∷ 1 ∷ 1 ∷ 1 ∷ []) last }
+    ensures built { IfOk result (λ f. IsBuilt f) }
+    ensures guards { IfOk result (λ f. HasGuards (1 ∷ 1 ∷ 1 ∷ 1 ∷ []) f) }
+{
+    if depth == 0 {
+        return Ok(last);
+    }
+    let other = always_holds(alloc, A)?;
+    let left = many(alloc, depth - 1, other)?;
+    let right = many(alloc, depth - 1, last)?;
+    and(alloc, left, right)
+}
