@@ -99,7 +99,7 @@ two_formulas f g ms first second =
     both_marked ms (marked_formula f ms) (marked_formula g (marked_formula f ms))
     (λ k. formula_uses k f) (λ k. formula_uses k g) first second
 
-formula_marked : (f : formula.Formula) (ms : List Bool) → Marked ms (marked_formula f ms) (λ k. formula_uses k f)
+pub formula_marked : (f : formula.Formula) (ms : List Bool) → Marked ms (marked_formula f ms) (λ k. formula_uses k f)
 formula_marked (formula.bool e) ms = expr_marked e ms
 formula_marked (formula.not f) ms = formula_marked f ms
 formula_marked (formula.and f g) ms = two_formulas f g ms (formula_marked f ms) (formula_marked g (marked_formula f ms))

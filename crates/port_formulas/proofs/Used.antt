@@ -15,18 +15,17 @@ use Rattle.port_formulas.proofs.Marks.{formula_marked}
 
 -- ---- the numbers below a count
 
-counted : (F : ℕ → ℕ → List ℕ) → ((k : ℕ) → F zero k ≡ []) → ((m k : ℕ) → F (suc m) k ≡ k ∷ F m (suc k)) →
-    (n k : ℕ) → F n k ≡ range_with_len k n
-counted F none more zero k = none k
-counted F none more (suc n) k =
-    more n k ∙ ap (λ (l : List ℕ). k ∷ l)
-    (counted F none more n (suc k) ∙ ap (λ (j : ℕ). range_with_len j n) (sym (add-one k)))
+abbrev numbers_from : (n k : ℕ) → List ℕ
+numbers_from zero k = []
+numbers_from (suc n) k = k ∷ numbers_from n (suc k)
 
-below_from : (n k : ℕ) → 0 ≡ k → below n ≡ range_with_len k n
-below_from n k e = rw e (counted _ (λ j. refl) (λ m j. refl) n k)
+numbers_are : (n k : ℕ) → numbers_from n k ≡ range_with_len k n
+numbers_are zero k = refl
+numbers_are (suc n) k =
+    ap (λ (l : List ℕ). k ∷ l) (numbers_are n (suc k) ∙ ap (λ (j : ℕ). range_with_len j n) (sym (add-one k)))
 
 pub below_is : (n : ℕ) → below n ≡ range_with_len 0 n
-below_is n = below_from n 0 refl
+below_is n = numbers_are n 0
 
 -- ---- what a filter of these numbers keeps
 
@@ -79,12 +78,12 @@ first_kept false a rest is = absurd (cc)
 
 members : (q : ℕ → Bool) (n a p : ℕ) → a ≤ p → p < a + n → q p ≡ true → Contains (filter q (range_with_len a n)) p
 members q zero a p above less is = absurd (omega arith)
-members q (suc n) a p above less is = pick (cases_lt a p)
+members q (suc n) a p above less is = pick (cases_lt a p) (λ past. members q n (a + 1) p past (omega arith) is)
   where
-    pick : (a < p) ⊎ (p ≤ a) → Contains (filter q (range_with_len a (suc n))) p
-    pick (inl past) =
-        kept (q a) a p (filter q (range_with_len (a + 1) n)) (members q n (a + 1) p (omega arith) (omega arith) is)
-    pick (inr here) =
+    pick : (a < p) ⊎ (p ≤ a) → ((a + 1 ≤ p) → Contains (filter q (range_with_len (a + 1) n)) p) →
+        Contains (filter q (range_with_len a (suc n))) p
+    pick (inl past) rest = kept (q a) a p (filter q (range_with_len (a + 1) n)) (rest (omega arith))
+    pick (inr here) rest =
         let same : a ≡ p = omega arith in
         subst (λ (k : ℕ). Contains (filter q (range_with_len a (suc n))) k) same
         (first_kept (q a) a (filter q (range_with_len (a + 1) n)) (ap q same ∙ is))
