@@ -9,11 +9,11 @@ use Rattle.std.proofs.lemmas.Bool.Decides.{eqb_tells}
 use Rattle.port_formulas.specs.Chosen.{position_in}
 
 -- what is pushed is told of a number past the end already
-pub get_or-pushed : (xs : List ℕ) (d k : ℕ) → get_or (xs ++ d ∷ []) k d ≡ get_or xs k d
-get_or-pushed [] d zero = refl
-get_or-pushed [] d (suc k) = refl
-get_or-pushed (x ∷ xs) d zero = refl
-get_or-pushed (x ∷ xs) d (suc k) = get_or-pushed xs d k
+pub get_or_pushed : (xs : List ℕ) (d k : ℕ) → get_or (xs ++ d ∷ []) k d ≡ get_or xs k d
+get_or_pushed [] d zero = refl
+get_or_pushed [] d (suc k) = refl
+get_or_pushed (x ∷ xs) d zero = refl
+get_or_pushed (x ∷ xs) d (suc k) = get_or_pushed xs d k
 
 pub no_places : (places : List ℕ) (s : ℕ) →
     length places + position_in (drop (length places) places) s ≡ length places
@@ -62,10 +62,10 @@ range_more p (suc n) a =
 
 pub kept_more : (p : ℕ → Bool) (n : ℕ) (xs : List ℕ) → xs ≡ filter p (range_with_len 0 n) → p n ≡ true →
     xs ++ n ∷ [] ≡ filter p (range_with_len 0 (n + 1))
-kept_more p n xs same yes =
+kept_more p n xs same passes =
     let at : 0 + n ≡ n = omega arith in
     ap (λ (l : List ℕ). l ++ n ∷ []) same
-    ∙ ap (λ (b : Bool). filter p (range_with_len 0 n) ++ cond b (n ∷ []) []) (sym yes)
+    ∙ ap (λ (b : Bool). filter p (range_with_len 0 n) ++ cond b (n ∷ []) []) (sym passes)
     ∙ ap (λ (k : ℕ). filter p (range_with_len 0 n) ++ cond (p k) (k ∷ []) []) (sym at)
     ∙ sym (range_more p n 0) ∙ ap (λ (k : ℕ). filter p (range_with_len 0 k)) (sym (add-one n))
 
@@ -75,9 +75,9 @@ append_none (x ∷ xs) = ap (λ (l : List ℕ). x ∷ l) (append_none xs)
 
 pub left_out : (p : ℕ → Bool) (n : ℕ) (xs : List ℕ) → xs ≡ filter p (range_with_len 0 n) → p n ≡ false →
     xs ≡ filter p (range_with_len 0 (n + 1))
-left_out p n xs same no =
+left_out p n xs same fails =
     let at : 0 + n ≡ n = omega arith in
     same ∙ sym (append_none (filter p (range_with_len 0 n)))
-    ∙ ap (λ (b : Bool). filter p (range_with_len 0 n) ++ cond b (n ∷ []) []) (sym no)
+    ∙ ap (λ (b : Bool). filter p (range_with_len 0 n) ++ cond b (n ∷ []) []) (sym fails)
     ∙ ap (λ (k : ℕ). filter p (range_with_len 0 n) ++ cond (p k) (k ∷ []) []) (sym at)
     ∙ sym (range_more p n 0) ∙ ap (λ (k : ℕ). filter p (range_with_len 0 k)) (sym (add-one n))

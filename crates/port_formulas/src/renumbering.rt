@@ -31,6 +31,7 @@ struct Positions {
 }
 
 impl Positions {
+    #[tactic(auto, using(crate::proofs::Positions::no_places, crate::proofs::Positions::here_first, crate::proofs::Positions::later_first))]
     fn of(alloc: Global, places: &[usize]) -> Result<Positions, AllocError>
         ensures { IfOk result (λ positions. (signal : ℕ) → told positions signal ≡ position_in places.now signal) }
     {
@@ -55,6 +56,7 @@ impl Positions {
     }
 
     /// Makes the table long enough for a signal.
+    #[tactic(auto, using(crate::proofs::Positions::get_or_pushed))]
     fn reach(&mut self, signal: usize) -> Result<(), AllocError>
         ensures long { IfOk result (λ _. signal < length self.new.table.items) }
         ensures kept { IfOk result (λ _. (other : ℕ) → told self.new other ≡ told self.old other) }

@@ -11,6 +11,7 @@ use std::alloc::{AllocError, Global};
 
 /// The places of the signals that a formula uses, of `count` signals, in their order. A signal whose place is no less
 /// than `count` is left out. One walk through the formula and one through the signals.
+#[tactic(auto, using(crate::proofs::Used::marked_used))]
 pub fn used_places(
     alloc: Global,
     count: usize,
@@ -24,6 +25,7 @@ pub fn used_places(
 }
 
 /// The places of the marks that are set, in their order.
+#[tactic(auto, using(crate::proofs::Positions::kept_more, crate::proofs::Positions::left_out))]
 fn marked_places(alloc: Global, marks: &[bool]) -> Result<Vec<usize>, AllocError>
     ensures { IfOk result (λ places. places.items ≡
         filter (λ place. slice_index_or marks.now place false) (range_with_len 0 (length marks.now))) }
