@@ -1,6 +1,6 @@
 //! Which signals a formula uses.
 
-ghost use Rattle.std.specs.Prelude.{◌≡◌, ℕ, IfOk, false, true, filter, length, slice_index_or, slice_set};
+ghost use Rattle.std.specs.Prelude.{◌≡◌, ℕ, IfOk, false, true, filter, length, replicate, slice_index_or, slice_set};
 ghost use Rattle.std.specs.List.{range_with_len};
 ghost use Rattle.psl_model.specs.Uses as uses;
 ghost use Rattle.psl_model.specs.View.{expr_of, sere_of, formula_of};
@@ -11,7 +11,6 @@ use std::alloc::{AllocError, Global};
 
 /// The places of the signals that a formula uses, of `count` signals, in their order. A signal whose place is no less
 /// than `count` is left out. One walk through the formula and one through the signals.
-#[tactic(auto, using(crate::proofs::Used::marked_used))]
 pub fn used_places(
     alloc: Global,
     count: usize,
@@ -19,9 +18,15 @@ pub fn used_places(
 ) -> Result<Vec<usize>, AllocError>
     ensures { IfOk result (λ places. places.items ≡ uses.used_places count (formula_of formula.now)) }
 {
-    let mut marks = vec![in alloc; false; count]?;
+    let mut marks = unmarked(alloc, count)?;
     mark_formula(formula, &mut marks);
     marked_places(alloc, &marks)
+}
+
+fn unmarked(alloc: Global, count: usize) -> Result<Vec<bool>, AllocError>
+    ensures { IfOk result (λ marks. marks.items ≡ replicate count false) }
+{
+    Ok(vec![in alloc; false; count]?)
 }
 
 /// The places of the marks that are set, in their order.
