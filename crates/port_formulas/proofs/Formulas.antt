@@ -1,13 +1,13 @@
 -- A formula over the places is satisfied by the words over the places: each formula that the others stand for.
-use Rattle.std.proofs.Common.{◌≡◌, ◌⊎◌, inl, inr, ℕ, suc, ◌<◌, List, Option, Some, None, refl, sym, ap, ◌∙◌, subst}
+use Rattle.std.proofs.Common.{inl, inr, ℕ, suc, List, Option, Some, None, sym, subst}
 use Rattle.std.specs.Prelude.{◌↔◌, option_map, IfSome, IsSomeAnd}
 use Rattle.psl_model.specs.Expr.{Expr}
-use Rattle.psl_meaning.specs.Word.{Letter, Word, with_tops, letter_at, Reaches, first, from, bar}
+use Rattle.psl_meaning.specs.Word.{Letter, Word, with_tops, letter_at, first, from, bar}
 use Rattle.psl_meaning.specs.Sequence.{CoreSere, Holds, Tight}
 use Rattle.psl_meaning.specs.Formula.{CoreFormula, bool, not, and, strong, weak, strong_next, strong_until, abort}
 use Rattle.psl_meaning.specs.Formula.{suffix, SomePrefix, Satisfies}
 use Rattle.port_formulas.specs.Chosen.{chosen_letter, chosen_word}
-use Rattle.port_formulas.proofs.Letters.{ExprSame, holds_to, holds_back, over_list, letter_at-over, reaches_to}
+use Rattle.port_formulas.proofs.Letters.{ExprSame, holds_to, holds_back, letter_at-over, reaches_to}
 use Rattle.port_formulas.proofs.Letters.{reaches_back, bar-over, from-over, first-over}
 use Rattle.port_formulas.proofs.Sequences.{SereSame}
 
@@ -138,12 +138,18 @@ module _ (us ws places : List ℕ) where
   pub until_same : (f g h k : CoreFormula) → FormulaSame f h → FormulaSame g k →
       FormulaSame (strong_until f g) (strong_until h k)
   until_same f g h k left right w = (
-    (λ (n, reached, there, before).
-        (n, reaches_to places w n reached, from_to g k right n w there,
-        (λ j earlier. from_to f h left j w (before j earlier)))),
-    (λ (n, reached, there, before).
-        (n, reaches_back places w n reached, from_back g k right n w there,
-        (λ j earlier. from_back f h left j w (before j earlier)))),
+    (λ (n, reached, there, before). (
+      n,
+      reaches_to places w n reached,
+      from_to g k right n w there,
+      (λ j earlier. from_to f h left j w (before j earlier)),
+    )),
+    (λ (n, reached, there, before). (
+      n,
+      reaches_back places w n reached,
+      from_back g k right n w there,
+      (λ j earlier. from_back f h left j w (before j earlier)),
+    )),
   )
 
   abort_to : (f g : CoreFormula) (e d : Expr) → FormulaSame f g → ExprSame us ws places e d → (w : Word) →

@@ -1,12 +1,13 @@
 -- Letters, lists and words over the signals at the places.
-use Rattle.std.proofs.Common.{◌≡◌, ◌≢◌, ℕ, zero, suc, ◌-◌, List, [], ◌∷◌, ◌++◌, Option, Some, None, map, take, drop}
+use Rattle.std.proofs.Common.{◌≡◌, ℕ, zero, suc, ◌-◌, List, [], ◌∷◌, ◌++◌, Option, Some, None, map, take}
 use Rattle.std.proofs.Common.{length, replicate, refl, sym, ap, ◌∙◌, subst}
 use Rattle.std.specs.Prelude.{slice_get, option_map, IsSome}
 use Rattle.std.proofs.lemmas.List.{drop-map, take-map, length-map, map-append}
 use Rattle.std.proofs.lemmas.Option.{slice_get-map}
 use Rattle.psl_model.specs.Expr.{Expr}
 use Rattle.psl_model.specs.Value.{own_value}
-use Rattle.psl_meaning.specs.Word.{Letter, valuation, top, bottom, Ending, ended, tops, bottoms, Word, letter_at, Reaches}
+use Rattle.psl_meaning.specs.Word.{Letter, valuation, top, bottom, Ending, ended, tops, bottoms, Word, letter_at}
+use Rattle.psl_meaning.specs.Word.{Reaches}
 use Rattle.psl_meaning.specs.Word.{first, from, filling, after_end, option_or, bar, bar_letter, bar_ending}
 use Rattle.psl_meaning.specs.Sequence.{Holds}
 use Rattle.port_formulas.specs.Chosen.{chosen, chosen_letter, chosen_word}

@@ -1,19 +1,15 @@
 -- The marks that the code sets, and the numbers below a count.
-use Rattle.std.proofs.Common.{◌≡◌, ◌≢◌, ◌⊎◌, inl, inr, ℕ, zero, suc, ◌+◌, ◌<◌, ◌≤◌, Bool, true, false, cond, eqb, List, []}
-use Rattle.std.proofs.Common.{◌∷◌, length, get_or, set, replicate, refl, sym, ap, ◌∙◌, arith, subst, get_or-set_other}
-use Rattle.std.proofs.Common.{length-set, add-one}
-use Rattle.std.specs.Prelude.{◌||◌, filter, All, Contains, IsTrue, ◌↔◌}
-use Rattle.std.specs.List.{range_with_len}
-use Rattle.std.specs.List.Sorted.{IsStrictlyIncreasing}
+use Rattle.std.proofs.Common.{◌≡◌, ◌≢◌, ◌⊎◌, inl, inr, ℕ, ◌<◌, Bool, true, false, eqb, List}
+use Rattle.std.proofs.Common.{length, get_or, set, refl, sym, ap, ◌∙◌, arith, get_or-set_other}
+use Rattle.std.proofs.Common.{length-set}
+use Rattle.std.specs.Prelude.{◌||◌}
 use Rattle.std.proofs.Math.Bool.{or_assoc}
 use Rattle.std.proofs.lemmas.Bool.Decides.{eqb_tells}
 use Rattle.std.proofs.lemmas.Grind.{get_or-set_at}
-use Rattle.std.proofs.lemmas.List.Elements.{All-filter, All-contains, All-from_get_or, filter_passes}
-use Rattle.std.proofs.lemmas.List.FromFn.{get_or-range_with_len, length-range_with_len}
 use Rattle.psl_model.specs.Expr.{Expr, whole, bit, part, plain, sized, unary, binary, choice}
 use Rattle.psl_model.specs.Sere as sere
 use Rattle.psl_model.specs.Formula as formula
-use Rattle.psl_model.specs.Uses.{expr_uses, sere_uses, formula_uses, below, used_places}
+use Rattle.psl_model.specs.Uses.{expr_uses, sere_uses, formula_uses}
 use Rattle.port_formulas.specs.inner.Marks.{marked_expr, marked_sere, marked_formula}
 
 or_none : (b : Bool) → (b || false) ≡ b

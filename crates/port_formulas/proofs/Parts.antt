@@ -1,5 +1,5 @@
 -- What holds of each signal that is used holds of each one that a part uses.
-use Rattle.std.proofs.Common.{◌≡◌, ℕ, Bool, true, false, refl}
+use Rattle.std.proofs.Common.{ℕ, Bool, true, false, refl}
 use Rattle.std.specs.Prelude.{IsTrue, ◌||◌}
 
 or_left : (a b : Bool) → IsTrue a → IsTrue (a || b)

@@ -1,8 +1,9 @@
 -- How the table of positions and the list of places grow.
-use Rattle.std.proofs.Common.{◌≡◌, ◌≢◌, ◌⊎◌, inl, inr, ℕ, zero, suc, ◌+◌, ◌<◌, Bool, true, false, cond, eqb, List, [], ◌∷◌, ◌++◌}
+use Rattle.std.proofs.Common.{◌≡◌, ◌≢◌, ◌⊎◌, inl, inr, ℕ, zero, suc, ◌+◌, ◌<◌, Bool, true, false, cond, eqb, List}
+use Rattle.std.proofs.Common.{[], ◌∷◌, ◌++◌}
 use Rattle.std.proofs.Common.{length, get_or, drop, refl, sym, ap, ◌∙◌, arith, add-one, drop-cons}
-use Rattle.std.specs.Prelude.{filter, ◌==◌, not}
-use Rattle.std.specs.List.{range_with_len, position_or_len}
+use Rattle.std.specs.Prelude.{filter, not}
+use Rattle.std.specs.List.{range_with_len}
 use Rattle.std.proofs.Math.Seq.{drop-length}
 use Rattle.std.proofs.lemmas.Bool.{eq-eqb}
 use Rattle.std.proofs.lemmas.Bool.Decides.{eqb_tells}
@@ -18,7 +19,8 @@ get_or_pushed (x ∷ xs) d (suc k) = get_or_pushed xs d k
 pub no_places : (places : List ℕ) (s : ℕ) →
     length places + position_in (drop (length places) places) s ≡ length places
 no_places places s =
-    ap (λ (l : List ℕ). length places + position_in l s) (drop-length places) ∙ (let e : length places + 0 ≡ length places = omega arith in e)
+    let none : length places + 0 ≡ length places = omega arith in
+    ap (λ (l : List ℕ). length places + position_in l s) (drop-length places) ∙ none
 
 first_place : (p s : ℕ) (places : List ℕ) (b : Bool) → eqb p s ≡ b →
     position_in (p ∷ places) s ≡ cond (not b) (1 + position_in places s) 0
@@ -39,11 +41,12 @@ here_first places i s within here =
 pub later_first : (places : List ℕ) (i s : ℕ) → i < length places → get_or places i 0 ≢ s →
     i + position_in (drop i places) s ≡ i + 1 + position_in (drop (i + 1) places) s
 later_first places i s within other =
+    let rest = position_in (drop (suc i) places) s in
+    let one : i + (1 + rest) ≡ i + 1 + rest = omega arith in
     ap (λ (l : List ℕ). i + position_in l s) (drop-cons places i 0 within)
     ∙ ap (λ (k : ℕ). i + k) (first_place (get_or places i 0) s (drop (suc i) places) false
     (unequal (get_or places i 0) s other (eqb_tells (get_or places i 0) s)))
-    ∙ (let e : i + (1 + position_in (drop (suc i) places) s) ≡ i + 1 + position_in (drop (suc i) places) s = omega arith in e)
-    ∙ ap (λ (k : ℕ). i + 1 + position_in (drop k places) s) (sym (add-one i))
+    ∙ one ∙ ap (λ (k : ℕ). i + 1 + position_in (drop k places) s) (sym (add-one i))
 
 joined : (b : Bool) (a : ℕ) (xs ys more : List ℕ) → xs ≡ ys ++ more →
     cond b (a ∷ xs) xs ≡ cond b (a ∷ ys) ys ++ more

@@ -1,6 +1,6 @@
 -- A sequence over the places is tightly satisfied by the lists over the places: each core sequence, and each other one
 -- by what it stands for.
-use Rattle.std.proofs.Common.{◌≡◌, ◌⊎◌, inl, inr, ℕ, zero, suc, ◌+◌, ◌-◌, List, [], ◌∷◌, ◌++◌, Option, Some, None}
+use Rattle.std.proofs.Common.{◌≡◌, inl, inr, ℕ, zero, suc, ◌+◌, ◌-◌, List, [], ◌∷◌, ◌++◌, Option, Some, None}
 use Rattle.std.proofs.Common.{refl, sym, ap, ◌∙◌, subst}
 use Rattle.std.specs.Prelude.{◌↔◌, ◌==◌, Contains}
 use Rattle.psl_model.specs.Expr.{Expr, unary}
@@ -10,8 +10,9 @@ use Rattle.psl_model.specs.Uses.{sere_uses, expr_uses}
 use Rattle.psl_model.specs.Value.{bit_of}
 use Rattle.psl_meaning.specs.Word.{Letter}
 use Rattle.psl_meaning.specs.Sequence.{CoreSere, bool, empty, concat, fuse, or, both, star, Holds, Copies, Tight}
-use Rattle.psl_meaning.specs.SequenceSugar.{always_true, anything, copies, union_of_copies, repeated, next_with, core_of}
-use Rattle.port_formulas.specs.Chosen.{chosen, chosen_letter, UsesOnly}
+use Rattle.psl_meaning.specs.SequenceSugar.{always_true, anything, copies, union_of_copies, repeated, next_with}
+use Rattle.psl_meaning.specs.SequenceSugar.{core_of}
+use Rattle.port_formulas.specs.Chosen.{chosen, UsesOnly}
 use Rattle.port_formulas.specs.Over.{over_expr, over_sere}
 use Rattle.port_formulas.proofs.Parts.{left_each, right_each}
 use Rattle.port_formulas.proofs.Named.{own_value_over}
@@ -53,12 +54,12 @@ module _ (us ws places : List ℕ) where
   concat_same : (r s t u : CoreSere) → SereSame r t → SereSame s u → SereSame (concat r s) (concat t u)
   concat_same r s t u first second w = (
     (λ (x, y, split, left, right). (
-        over_list places x,
-        over_list places y,
-        ap (over_list places) split ∙ over_append places x y,
-        (first x).0 left,
-        (second y).0 right,
-      )),
+      over_list places x,
+      over_list places y,
+      ap (over_list places) split ∙ over_append places x y,
+      (first x).0 left,
+      (second y).0 right,
+    )),
     (λ (x, y, split, left, right). concat_back r s t u first second w x y split left right),
   )
 
@@ -87,13 +88,13 @@ module _ (us ws places : List ℕ) where
   fuse_same : (r s t u : CoreSere) → SereSame r t → SereSame s u → SereSame (fuse r s) (fuse t u)
   fuse_same r s t u first second w = (
     (λ (x, y, a, split, left, right). (
-        over_list places x,
-        over_list places y,
-        onto places a,
-        ap (over_list places) split ∙ over_append places x (a ∷ y),
-        subst (λ (l : List Letter). Tight ws t l) (over_append places x (a ∷ [])) ((first (x ++ a ∷ [])).0 left),
-        (second (a ∷ y)).0 right,
-      )),
+      over_list places x,
+      over_list places y,
+      onto places a,
+      ap (over_list places) split ∙ over_append places x (a ∷ y),
+      subst (λ (l : List Letter). Tight ws t l) (over_append places x (a ∷ [])) ((first (x ++ a ∷ [])).0 left),
+      (second (a ∷ y)).0 right,
+    )),
     (λ (m, n, a, split, left, right). fuse_back r s t u first second w m n a split left right),
   )
 

@@ -12,12 +12,12 @@ use Rattle.psl_meaning.specs.Word.{Letter, Word, Ending, valuation}
 use Rattle.psl_meaning.specs.Sequence as sequence
 use Rattle.psl_meaning.specs.Sequence.{CoreSere}
 use Rattle.psl_meaning.specs.SequenceSugar.{always_true, core_of}
-use Rattle.psl_meaning.specs.Formula.{CoreFormula, bool, not, and, strong, weak, strong_next, strong_until, abort}
-use Rattle.psl_meaning.specs.Formula.{suffix, Satisfies}
-use Rattle.psl_meaning.specs.FormulaSugar.{or, implies, somewhere, everywhere, weak_next, weak_until, next_by, until_by}
+use Rattle.psl_meaning.specs.Formula.{CoreFormula, bool, not, and, strong, strong_next, strong_until}
+use Rattle.psl_meaning.specs.Formula.{Satisfies}
+use Rattle.psl_meaning.specs.FormulaSugar.{or, implies, somewhere, everywhere, next_by, until_by}
 use Rattle.psl_meaning.specs.FormulaSugar.{sequence_by, next_times, next_event, event_times, conjunction, disjunction}
 use Rattle.psl_meaning.specs.FormulaSugar.{over_reach, core_formula_of}
-use Rattle.port_formulas.specs.Chosen.{chosen, chosen_letter, chosen_word, UsesOnly}
+use Rattle.port_formulas.specs.Chosen.{chosen, UsesOnly}
 use Rattle.port_formulas.specs.Over.{over_expr, over_sere, over}
 use Rattle.port_formulas.proofs.Parts.{left_each, right_each}
 use Rattle.port_formulas.proofs.Letters.{ExprSame, over_list}

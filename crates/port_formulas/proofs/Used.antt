@@ -1,5 +1,5 @@
 -- The places that a formula uses, as a list.
-use Rattle.std.proofs.Common.{◌≡◌, ◌⊎◌, inl, inr, ℕ, zero, suc, ◌+◌, ◌<◌, ◌≤◌, Bool, true, false, cond, eqb, List, []}
+use Rattle.std.proofs.Common.{◌≡◌, ◌⊎◌, inl, inr, ℕ, zero, suc, ◌+◌, ◌<◌, ◌≤◌, Bool, true, false, cond, List, []}
 use Rattle.std.proofs.Common.{◌∷◌, length, get_or, replicate, refl, sym, ap, ◌∙◌, arith, subst, add-one}
 use Rattle.std.specs.Prelude.{◌||◌, filter, slice_index, All, Contains, IsTrue, ◌↔◌}
 use Rattle.std.specs.List.{range_with_len}
@@ -47,9 +47,9 @@ marked_used f count =
     ap (λ (n : ℕ). filter (λ k. get_or (marked_formula f ms) k false) (range_with_len 0 n)) size
     ∙ filter_alike (λ k. get_or (marked_formula f ms) k false) (λ k. formula_uses k f) count 0
     (λ k above less.
-        let within : k < count = omega arith in
-        let there : k < length ms = omega (arith, length-replicate count false) in
-        marked.1 k there ∙ ap (λ (b : Bool). b || formula_uses k f) (get_or-replicate count k false false within))
+    let within : k < count = omega arith in
+    let there : k < length ms = omega (arith, length-replicate count false) in
+    marked.1 k there ∙ ap (λ (b : Bool). b || formula_uses k f) (get_or-replicate count k false false within))
     ∙ ap (filter (λ k. formula_uses k f)) (sym (below_is count))
 
 -- ---- laws of the list
@@ -58,10 +58,10 @@ range_below : (count : ℕ) → All (λ k. k < count) (range_with_len 0 count)
 range_below count =
     All-from_get_or (λ k. k < count) (range_with_len 0 count) 0
     (λ i less.
-        let size = length-range_with_len 0 count in
-        let within : i < count = omega (arith, size) in
-        let is = get_or-range_with_len 0 count i 0 within in
-        omega (arith, is))
+    let size = length-range_with_len 0 count in
+    let within : i < count = omega (arith, size) in
+    let is = get_or-range_with_len 0 count i 0 within in
+    omega (arith, is))
 
 pub used_below : (count : ℕ) (f : Formula) → All (λ k. k < count) (used_places count f)
 used_below count f =
@@ -95,7 +95,8 @@ used_to count f p there = (
       (filter_passes (λ k. formula_uses k f) (below count)) there,
 )
 
-used_back : (count : ℕ) (f : Formula) (p : ℕ) → (p < count) × IsTrue (formula_uses p f) → Contains (used_places count f) p
+used_back : (count : ℕ) (f : Formula) (p : ℕ) → (p < count) × IsTrue (formula_uses p f) →
+    Contains (used_places count f) p
 used_back count f p (less, used) =
     subst (λ (l : List ℕ). Contains (filter (λ k. formula_uses k f) l) p) (sym (below_is count))
     (members (λ k. formula_uses k f) count 0 p (omega arith) (omega arith) used)
@@ -124,7 +125,8 @@ filter_rising q (suc n) a =
     rising_kept (q a) a (filter q (range_with_len (a + 1) n))
     (subst (λ (k : ℕ). Rising k (filter q (range_with_len (a + 1) n))) (add-one a) (filter_rising q n (a + 1)))
 
-rising_steps : (a : ℕ) (xs : List ℕ) → Rising a xs → (k : ℕ) → suc k < length xs → slice_index xs k < slice_index xs (suc k)
+rising_steps : (a : ℕ) (xs : List ℕ) → Rising a xs → (k : ℕ) → suc k < length xs →
+    slice_index xs k < slice_index xs (suc k)
 rising_steps a [] rising k less = absurd (omega arith)
 rising_steps a (x ∷ []) rising k less = absurd (omega arith)
 rising_steps a (x ∷ y ∷ xs) rising zero less = omega (arith, rising.1.0)

@@ -17,13 +17,16 @@ ghost use Rattle.psl_meaning.specs.Violation.{WeaklyViolates, Violates};
 ghost use Rattle.port_formulas.specs.Chosen.{chosen, UsesOnly, chosen_letter, chosen_word};
 ghost use Rattle.port_formulas.specs.Over.{over_expr, over_sere, over};
 
-/// The places that a formula uses ascend, are below the count, and are exactly those of the signals that it uses. A
-/// valid expression uses no other signals than those of its table.
+/// The places that a formula uses ascend, are below the count, and are exactly those of the signals that it uses. So a
+/// formula over signals below the count uses only signals at these places. A valid expression uses signals of its table
+/// alone.
 pub fn used_places_are_those_of_the_used_signals()
     ensures ascending { (count : ℕ) (f : Formula) → IsStrictlyIncreasing (used_places count f) }
     ensures below { (count : ℕ) (f : Formula) → All (λ place. place < count) (used_places count f) }
     ensures exactly { (count : ℕ) (f : Formula) (place : ℕ) →
         Contains (used_places count f) place ↔ ((place < count) × IsTrue (formula_uses place f)) }
+    ensures enough { (count : ℕ) (f : Formula) → ((place : ℕ) → IsTrue (formula_uses place f) → place < count) →
+        UsesOnly (used_places count f) (λ place. formula_uses place f) }
     ensures valid { (widths : List ℕ) (e : Expr) (place : ℕ) →
         IsValid widths e → IsTrue (expr_uses place e) → place < length widths }
 {}
@@ -68,8 +71,10 @@ pub fn a_formula_over_its_signals_is_the_same()
 pub fn a_formula_over_its_signals_is_violated_alike()
     ensures weakly { (places widths : List ℕ) (f : Formula) (trace : List Valuation) →
         UsesOnly places (λ signal. formula_uses signal f) →
-        WeaklyViolates widths f trace ↔ WeaklyViolates (chosen places widths) (over places f) (map (chosen places) trace) }
+        WeaklyViolates widths f trace
+        ↔ WeaklyViolates (chosen places widths) (over places f) (map (chosen places) trace) }
     ensures whole { (places widths : List ℕ) (f : Formula) (trace : List Valuation) →
         UsesOnly places (λ signal. formula_uses signal f) →
-        Violates widths f trace ↔ Violates (chosen places widths) (over places f) (map (chosen places) trace) }
+        Violates widths f trace
+        ↔ Violates (chosen places widths) (over places f) (map (chosen places) trace) }
 {}

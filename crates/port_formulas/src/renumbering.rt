@@ -47,7 +47,8 @@ impl Positions {
 
     fn put(&mut self, signal: usize, position: usize) -> Result<(), AllocError>
         ensures there { IfOk result (λ _. told self.new signal ≡ position) }
-        ensures others { IfOk result (λ _. (other : ℕ) → (other ≡ signal → ⊥) → told self.new other ≡ told self.old other) }
+        ensures others { IfOk result (λ _. (other : ℕ) →
+            (other ≡ signal → ⊥) → told self.new other ≡ told self.old other) }
         ensures absent { self.new.absent ≡ self.old.absent }
     {
         self.reach(signal)?;

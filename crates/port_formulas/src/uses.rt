@@ -11,11 +11,7 @@ use std::alloc::{AllocError, Global};
 
 /// The places of the signals that a formula uses, of `count` signals, in their order. A signal whose place is no less
 /// than `count` is left out. One walk through the formula and one through the signals.
-pub fn used_places(
-    alloc: Global,
-    count: usize,
-    formula: &Formula,
-) -> Result<Vec<usize>, AllocError>
+pub fn used_places(alloc: Global, count: usize, formula: &Formula) -> Result<Vec<usize>, AllocError>
     ensures { IfOk result (λ places. places.items ≡ uses.used_places count (formula_of formula.now)) }
 {
     let mut marks = unmarked(alloc, count)?;
@@ -56,7 +52,9 @@ fn mark_expr(expr: &Expr, marks: &mut [bool])
     ensures { marks.new ≡ marked_expr (expr_of expr.now) marks.old }
 {
     match expr {
-        Expr::Whole(signal) | Expr::Bit(signal, _) | Expr::Part(signal, _, _) => mark(marks, *signal),
+        Expr::Whole(signal) | Expr::Bit(signal, _) | Expr::Part(signal, _, _) => mark(
+            marks, *signal,
+        ),
         Expr::Plain(_) | Expr::Sized(_, _) => {}
         Expr::Unary(_, operand) => mark_expr(operand.get(), marks),
         Expr::Binary(_, left, right) => {
@@ -75,7 +73,9 @@ fn mark_sere(sere: &Sere, marks: &mut [bool])
     ensures { marks.new ≡ marked_sere (sere_of sere.now) marks.old }
 {
     match sere {
-        Sere::Bool(expr) | Sere::Goto(expr, _, _) | Sere::Equal(expr, _, _) => mark_expr(expr, marks),
+        Sere::Bool(expr) | Sere::Goto(expr, _, _) | Sere::Equal(expr, _, _) => mark_expr(
+            expr, marks,
+        ),
         Sere::Then(left, right)
         | Sere::Fuse(left, right)
         | Sere::Or(left, right)

@@ -1,5 +1,5 @@
 -- A list with a mark for each signal, after the signals that are used are marked.
-use Rattle.std.specs.Prelude.{ℕ, Bool, true, List, slice_set}
+use Rattle.std.specs.Prelude.{Bool, true, List, slice_set}
 use Rattle.psl_model.specs.Expr.{Expr, whole, bit, part, plain, sized, unary, binary, choice}
 use Rattle.psl_model.specs.Sere as sere
 use Rattle.psl_model.specs.Formula as formula

@@ -11,5 +11,8 @@ returns-clause-below c = used_below
 pub returns-clause-exactly : goal.returns-clause-exactly
 returns-clause-exactly c = used_exactly
 
+pub returns-clause-enough : goal.returns-clause-enough
+returns-clause-enough c count f below place used = (used_exactly count f place).1 (below place used, used)
+
 pub returns-clause-valid : goal.returns-clause-valid
 returns-clause-valid c = valid_below

@@ -1,4 +1,5 @@
-use Rattle.std.proofs.Common.{◌≡◌, ℕ, Bool, false, List, IfOk, filter, length, slice_index_or, replicate, subst, ap, sym}
+use Rattle.std.proofs.Common.{◌≡◌, ℕ, Bool, false, List, IfOk, filter, length, slice_index_or, replicate, subst, ap}
+use Rattle.std.proofs.Common.{sym}
 use Rattle.std.proofs.Common.{◌∙◌, ◌++◌, take, drop}
 use Rattle.std.specs.List.{range_with_len}
 use Rattle.std.proofs.Math.Seq.{take-append_seam}
