@@ -48,6 +48,9 @@ later_first places i s within other =
     (unequal (get_or places i 0) s other (eqb_tells (get_or places i 0) s)))
     ∙ one ∙ ap (λ (k : ℕ). i + 1 + position_in (drop k places) s) (sym (add-one i))
 
+-- how the table goes on from place to place, from the last one down
+pub ruleset turns = (no_places, here_first, later_first)
+
 joined : (b : Bool) (a : ℕ) (xs ys more : List ℕ) → xs ≡ ys ++ more →
     cond b (a ∷ xs) xs ≡ cond b (a ∷ ys) ys ++ more
 joined true a xs ys more same = ap (λ (l : List ℕ). a ∷ l) same

@@ -1,6 +1,7 @@
 //! The formula that names signals by their positions among some places.
 
 ghost use Rattle.std.specs.Prelude.{◌≡◌, ◌<◌, ℕ, IfOk, length, slice_index_or};
+ghost use Rattle.psl_model.specs.Formula.{abort};
 ghost use Rattle.psl_model.specs.View.{expr_of, sere_of, formula_of};
 ghost use Rattle.port_formulas.specs.Chosen.{position_in};
 ghost use Rattle.port_formulas.specs.Over.{expr_named, sere_named, formula_named, over};
@@ -31,7 +32,7 @@ struct Positions {
 }
 
 impl Positions {
-    #[tactic(auto, using(crate::proofs::Positions::no_places, crate::proofs::Positions::here_first, crate::proofs::Positions::later_first))]
+    #[tactic(auto, using(crate::proofs::Positions::turns))]
     fn of(alloc: Global, places: &[usize]) -> Result<Positions, AllocError>
         ensures { IfOk result (λ positions. (signal : ℕ) → told positions signal ≡ position_in places.now signal) }
     {
@@ -251,7 +252,7 @@ fn named_formula(
         },
         Formula::Abort(body, on) => {
             let body = named_body(alloc, body, positions)?;
-            Formula::Abort(body, named_expr(alloc, on, positions)?)
+            aborted(alloc, body, on, positions)?
         }
     })
 }
@@ -265,4 +266,17 @@ fn named_body(
     ensures { IfOk result (λ named. named ≡ formula_named (told positions.now) body.now) }
 {
     Subformula::new(alloc, named_formula(alloc, body.get(), positions)?)
+}
+
+/// An `abort` whose body has its names already.
+fn aborted(
+    alloc: Global,
+    body: Subformula,
+    on: &Expr,
+    positions: &Positions,
+) -> Result<Formula, AllocError>
+    ensures { IfOk result (λ named.
+        formula_of named ≡ abort body (expr_named (told positions.now) (expr_of on.now))) }
+{
+    Ok(Formula::Abort(body, named_expr(alloc, on, positions)?))
 }
