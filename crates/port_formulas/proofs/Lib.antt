@@ -1,0 +1,10 @@
+pub mod Parts
+pub mod Places
+pub mod Named
+pub mod Letters
+pub mod Sequences
+pub mod Formulas
+pub mod Sugar
+pub mod Marks
+pub mod Used
+pub mod Positions
