@@ -61,5 +61,6 @@ pub returns : goal.returns
 returns c = λ known same.
     let none : c.above.above ≡ 0 = omega arith in
     learns_all c.args.text.now c.args.tokens.now c.args.name.now c.args.meaning known c.above.all.items
-    (subst (λ (n : ℕ). Learns c.args.text.now c.args.tokens.now c.args.name.now c.args.meaning known c.above.all.items n)
+    (subst (λ (n : ℕ).
+    Learns c.args.text.now c.args.tokens.now c.args.name.now c.args.meaning known c.above.all.items n)
     none (c.above.invariant.2 known same))
