@@ -4,7 +4,6 @@ use Rattle.std.proofs.Common.{Some, None, refl, sym, ap, subst, ◌∙◌, appen
 use Rattle.std.proofs.lemmas.List.{append-nil}
 use Rattle.std.proofs.lemmas.List.Elements.{All-nil, All-cons, All-append}
 use Rattle.std.proofs.lemmas.Slice.Eq.{bytes_eq-Decides}
-use Rattle.std.specs.Prelude.{slice_index_or}
 use Rattle.std.specs.Cmp.Lexicographic.{pointwise}
 use Rattle.psl_lexer.specs.declared.kinds.Key.{Key}
 use Rattle.psl_lexer.specs.declared.kinds.Mark.{Mark}
@@ -33,8 +32,8 @@ use Rattle.psl_grammar.specs.PropGrammar.{IsParen, IsNextForm, Phrase, IsProp}
 use Rattle.psl_grammar.specs.ItemGrammar as item
 use Rattle.psl_grammar.specs.ItemGrammar.{IsItem}
 use Rattle.psl_grammar.specs.Units as units
-use Rattle.psl_grammar.specs.Units.{Known, word_symbol, mark_symbol, kind_symbol, meaning_of, bytes_of, symbol_in}
-use Rattle.psl_grammar.specs.Units.{symbols_in, no_token}
+use Rattle.psl_grammar.specs.Units.{Known, word_symbol, mark_symbol, kind_symbol, meaning_of, bytes_of}
+use Rattle.psl_grammar.specs.Units.{symbols_in}
 use Rattle.psl_grammar.specs.Units.{name_at, learned, known_after, AreItems, IsUnit}
 use Rattle.psl_grammar.specs.DeclaredNames.{SameName, Spares, IsSignal, IsSequence, IsProperty, ItemNames}
 use Rattle.psl_grammar.specs.DeclaredNames.{NamesDeclared}
@@ -74,7 +73,7 @@ module _ (symbols : List Symbol) where
   sere_names (s.alone c) = tt
   sere_names (s.IsSere.again p c) = sere_names p
   sere_names (s.timed p) = timed_names p
-  sere_names (s.joins p o q) = (sere_names p, sere_names q)
+  sere_names (s.joins lt p o q) = (sere_names p, sere_names q)
   sere_names (s.IsSere.looser p) = sere_names p
 
   seq_names : {room : ℕ} {t : RawSere} {i j : ℕ} → IsSeq symbols room t i j → SereNames Signal Sequence t

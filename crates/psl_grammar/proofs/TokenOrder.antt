@@ -1,6 +1,6 @@
 -- The tokens that a phrase's tree names ascend within the phrase.
-use Rattle.std.proofs.Common.{◌≡◌, ℕ, ◌+◌, ◌<◌, ◌≤◌, Bool, List, [], ◌∷◌, ◌++◌, length, length-append, All, Option}
-use Rattle.std.proofs.Common.{Some, None, refl, subst, sym, arith}
+use Rattle.std.proofs.Common.{ℕ, ◌+◌, ◌<◌, ◌≤◌, Bool, List, [], ◌∷◌, ◌++◌, length, length-append, All, Option}
+use Rattle.std.proofs.Common.{subst, sym, arith}
 use Rattle.std.proofs.lemmas.List.Elements.{All-cons}
 use Rattle.psl_lexer.specs.declared.kinds.Token.{Token}
 use Rattle.psl_grammar.specs.declared.symbols.Symbol.{Symbol}
@@ -69,7 +69,7 @@ module _ (symbols : List Symbol) where
   sere_within (s.IsSere.again {s = r} {low = low} {high = high} {i = i} {m = m} {j = j} p c) =
       both i m j (sere_tokens r) (counts_tokens m low high) (sere_within p) (times_within c)
   sere_within (s.timed p) = timed_within p
-  sere_within (s.joins {l = l} {r = r} {i = i} {m = m} {j = j} p o q) =
+  sere_within (s.joins {l = l} {r = r} {i = i} {m = m} {j = j} lt p o q) =
       around i m j (sere_tokens l) (sere_tokens r) (sere_within p) (sere_within q)
   sere_within (s.IsSere.looser p) = sere_within p
 
@@ -246,3 +246,6 @@ module _ (text : List ℕ) (tokens : List Token) where
       let some : length items + 3 ≤ j = (items_within p).0 in omega (arith, e)
   unit_few _ (units.bound {items = items} {j = j} a n b n2 c d p f e) =
       let some : length items + 6 ≤ j = (items_within p).0 in omega (arith, e)
+
+-- what a unit's tree says of the order of its tokens
+pub ruleset unit_in_order = (unit_ascends, unit_below, unit_few)

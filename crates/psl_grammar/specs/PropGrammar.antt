@@ -59,7 +59,8 @@ pub data IsNextForm (symbols : List Symbol) (room : ℕ)
       → IsRange symbols m → IsNextForm symbols room (Some e) (Some (m + 1)) (Some (m + 3)) i (m + 5)
 
 -- The kinds of phrases that properties are made of. A primary is an operand that is no bool, a factor what `&&` joins,
--- and an either what `||` joins; the others are those of the grammar.
+-- a both one factor or several that `&&` joins, and an either one both or several that `||` joins; the others are those
+-- of the grammar.
 pub data Phrase : Type 0 where
   primary factor both either hdl low abt occ untl suff impl prop : Phrase
 

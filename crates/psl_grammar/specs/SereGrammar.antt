@@ -1,6 +1,6 @@
 -- Which symbols spell a repetition and a sequence: one rule for each line of the grammar. The levels of a sequence:
 -- 0 a phrase that is no bool, with its repetitions, 1 elem, 2 `within`, 3 `&` and `&&`, 4 `|`, 5 `:`, 6 `;`.
-use Rattle.std.specs.Prelude.{◌≡◌, ℕ, suc, ◌+◌, Bool, true, false, List, Option, Some, None, IsTrue}
+use Rattle.std.specs.Prelude.{◌≡◌, ℕ, suc, ◌+◌, ◌<◌, Bool, true, false, List, Option, Some, None, IsTrue}
 use Rattle.psl_grammar.specs.declared.symbols.Symbol.{Symbol}
 use Rattle.psl_grammar.specs.declared.symbols.Symbol.TheVariants.{Number, Colon, CloseBracket, OpenBrace, CloseBrace}
 use Rattle.psl_grammar.specs.declared.symbols.Symbol.TheVariants.{RepeatOpen, RepeatPlus, GotoOpen, SequenceName}
@@ -51,7 +51,7 @@ pub data IsSere (symbols : List Symbol) : (room level : ℕ) → RawSere → (fr
   -- bool { rep }, inside braces
   timed : {room : ℕ} {s : RawSere} {i j : ℕ} → IsTimed symbols room true s i j → IsSere symbols room 1 s i j
   -- left operator right, joined to the left
-  joins : {room k : ℕ} {l r : RawSere} {i m j : ℕ} → IsSere symbols room (suc k) l i m
+  joins : {room k : ℕ} {l r : RawSere} {i m j : ℕ} → k < 6 → IsSere symbols room (suc k) l i m
       → sere_level (symbol_at symbols m) ≡ suc k → IsSere symbols room k r (m + 1) j
       → IsSere symbols room (suc k) (join m l r) i j
   -- a phrase of one level is one of each looser level

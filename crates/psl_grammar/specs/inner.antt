@@ -1,3 +1,2 @@
 -- What no reader has to believe: codes by which the logic stores trees.
-pub mod CodeParts
 pub mod Codes

@@ -9,7 +9,7 @@ ghost use Rattle.psl_grammar.specs.Units.{IsUnit};
 
 /// The tokens that a unit's tree names are tokens of the text, each behind those that stand before it in the tree. No
 /// unit has more items than tokens.
-#[tactic(auto, using(crate::proofs::TokenOrder::unit_ascends, crate::proofs::TokenOrder::unit_below, crate::proofs::TokenOrder::unit_few))]
+#[tactic(auto, using(crate::proofs::TokenOrder::unit_in_order))]
 pub fn a_unit_names_its_tokens_in_order()
     ensures ascend { (text : List ℕ) (tokens : List Token) (unit : RawUnit)
         → IsUnit text tokens unit → AscendFrom 0 (unit_tokens unit) }

@@ -1,7 +1,7 @@
--- Where a token may be too deep. The first one that stands in 65 open phrases begins a phrase and has as many tokens
--- before it that opened them, besides the `{` of the unit; and the 2,049th token of an item has 2,048 before it, besides
--- the unit's head.
-use Rattle.std.specs.Prelude.{ℕ, ◌+◌, ◌<◌, ◌≤◌, ◌⊎◌, Bool, true, false, List, slice_range, count_by, IsTrue}
+-- Where a fault may be told. A token that is too deep is one of the text. The first one that stands in 65 open phrases
+-- begins a phrase and has as many tokens before it that opened them, besides the `{` of the unit; and the 2,049th token
+-- of an item has 2,048 before it, besides the unit's head. A fault of syntax is at a token, or at the end of the text.
+use Rattle.std.specs.Prelude.{ℕ, ◌+◌, ◌<◌, ◌≤◌, ◌⊎◌, Bool, true, false, List, length, slice_range, count_by, IsTrue}
 use Rattle.psl_grammar.specs.declared.symbols.Symbol.{Symbol}
 use Rattle.psl_grammar.specs.declared.symbols.Symbol.TheVariants.{OpenParenthesis, OpenBrace, Exclamation, Tilde, And}
 use Rattle.psl_grammar.specs.declared.symbols.Symbol.TheVariants.{Caret, Or, Always, EventuallyStrong, Next}
@@ -11,7 +11,7 @@ use Rattle.psl_grammar.specs.declared.symbols.Symbol.TheVariants.{RepeatOpen, Re
 use Rattle.psl_grammar.specs.Symbols.{symbol_at}
 use Rattle.psl_grammar.specs.ItemGrammar.{open_phrases_limit, item_limit}
 use Rattle.unit_reader.specs.declared.errors.ParseError.{ParseError}
-use Rattle.unit_reader.specs.declared.errors.ParseError.TheVariants.{TooDeep}
+use Rattle.unit_reader.specs.declared.errors.ParseError.TheVariants.{Syntax, TooDeep, OutOfMemory}
 
 -- the symbols that open a phrase in some place
 abbrev pub may_open : Symbol → Bool
@@ -63,10 +63,11 @@ may_begin _ = false
 
 abbrev pub MayBeTooDeep : List Symbol → (place : ℕ) → Type 0
 MayBeTooDeep symbols place =
-    (IsTrue (may_begin (symbol_at symbols place)) × (open_phrases_limit + 1 < openers symbols place))
-    ⊎ (item_limit + 3 ≤ place)
+    (place < length symbols) × ((IsTrue (may_begin (symbol_at symbols place))
+    × (open_phrases_limit + 1 < openers symbols place)) ⊎ (item_limit + 3 ≤ place))
 
--- a fault of depth is told of a token that may be too deep
+-- a fault of depth is told of a token that may be too deep, and one of syntax of a token or of the end behind the last
 abbrev pub IsToldRightly : List Symbol → ParseError → Type 0
 IsToldRightly symbols (TooDeep token) = MayBeTooDeep symbols token
-IsToldRightly symbols _ = Unit {0}
+IsToldRightly symbols (Syntax token) = token ≤ length symbols
+IsToldRightly symbols OutOfMemory = Unit {0}

@@ -1,6 +1,6 @@
 //! Where a token may be too deep.
 
-ghost use Rattle.std.specs.Prelude.{◌≡◌, ◌≤◌, ◌↔◌, IsTrue, length, count_by};
+ghost use Rattle.std.specs.Prelude.{◌≡◌, ◌<◌, ◌↔◌, IsTrue, length, count_by};
 ghost use Rattle.psl_grammar.specs.Symbols.{symbol_at};
 ghost use Rattle.psl_parser.specs.Depth.{may_open, may_begin, MayBeTooDeep};
 
@@ -79,13 +79,23 @@ fn begins_at(symbols: &[Symbol], place: u32) -> bool
     }
 }
 
-/// Whether the token at a place may be too deep.
-pub fn may_be_too_deep(symbols: &[Symbol], place: u32) -> bool
-    requires within { place ≤ length symbols.now }
+/// Whether a token may be too deep.
+fn is_token_deep(symbols: &[Symbol], place: u32) -> bool
+    requires within { place < length symbols.now }
     ensures { IsTrue result ↔ MayBeTooDeep symbols.now place }
 {
     if TOKENS <= place {
         return true;
     }
     begins_at(symbols, place) && OPENERS < openers_in(&symbols[..place as usize])
+}
+
+/// Whether there is a token at a place that may be too deep.
+pub fn may_be_too_deep(symbols: &[Symbol], place: u32) -> bool
+    ensures { IsTrue result ↔ MayBeTooDeep symbols.now place }
+{
+    if place as usize >= symbols.len() {
+        return false;
+    }
+    is_token_deep(symbols, place)
 }

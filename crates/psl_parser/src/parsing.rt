@@ -14,17 +14,26 @@ use psl_lexer::Token;
 use std::alloc::Global;
 use unit_reader::{ParseError, classify, read_unit};
 
+/// The number of a token, or the count of the tokens for the end behind them.
+fn token_or_end(token: u32, count: usize) -> u32
+    ensures { result ≤ count }
+{
+    if token as usize <= count {
+        return token;
+    }
+    count as u32
+}
+
 /// A fault of depth at a token, or one of syntax where the token can't be too deep.
 fn fault_at(symbols: &[Symbol], token: u32) -> ParseError
     ensures { IsToldRightly symbols.now result }
 {
-    if token as usize > symbols.len() {
-        return ParseError::Syntax { token };
-    }
     if may_be_too_deep(symbols, token) {
         return ParseError::TooDeep { token };
     }
-    ParseError::Syntax { token }
+    ParseError::Syntax {
+        token: token_or_end(token, symbols.len()),
+    }
 }
 
 /// The same for the tokens of a text.
@@ -45,7 +54,9 @@ fn told(alloc: Global, text: &[u8], tokens: &[Token], error: ParseError) -> Pars
 {
     match error {
         ParseError::TooDeep { token } => told_at(alloc, text, tokens, token),
-        ParseError::Syntax { token } => ParseError::Syntax { token },
+        ParseError::Syntax { token } => ParseError::Syntax {
+            token: token_or_end(token, tokens.len()),
+        },
         ParseError::OutOfMemory => ParseError::OutOfMemory,
     }
 }

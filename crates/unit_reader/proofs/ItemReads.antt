@@ -10,7 +10,7 @@ use Rattle.psl_grammar.specs.RawUnit as raw
 use Rattle.psl_grammar.specs.RawUnit.{RawItem}
 use Rattle.psl_grammar.specs.SereGrammar.{IsSeq}
 use Rattle.psl_grammar.specs.PropGrammar.{IsProp, prop}
-use Rattle.psl_grammar.specs.ItemGrammar.{AnyName, AreNames, one, more, IsReport, none, some, IsItem}
+use Rattle.psl_grammar.specs.ItemGrammar.{AreNames, one, more, IsReport, none, some, IsItem}
 use Rattle.psl_grammar.specs.ItemGrammar as g
 use Rattle.unit_reader.specs.inner.Steps.{◌>>=◌, is_at}
 use Rattle.unit_reader.specs.inner.FormReaders.{range_end}
@@ -44,7 +44,7 @@ module _ (symbols : List Symbol) where
   sequence_is p s e = absurd (cc)
 
   seq_read : (i : ℕ) (y : RawSere × ℕ) → whole_seq symbols i ≡ Some y → IsSeq symbols 64 y.0 i y.1
-  unfolding whole_seq as_seq
+  unfolding whole_seq
   seq_read i y e =
       bound (whole_prop symbols i) (as_seq symbols) y e
       λ p e1 e2. one_way (is_at symbols (p.1 - 1) symbol.CloseParenthesis) None (sequence_of p.0 >>= λ s. Some (s, p.1))
@@ -101,7 +101,7 @@ module _ (symbols : List Symbol) where
       (at symbols l.1 symbol.Semicolon h))
 
   sequence_read : (i : ℕ) (y : RawItem × ℕ) → At symbols i symbol.Sequence → sequence_at symbols i ≡ Some y → Item i y
-  unfolding sequence_at sequence_end
+  unfolding sequence_at
   sequence_read i y d e =
       needed _ _ y e λ n e1. needed _ _ y e1
       λ a e2. bound (whole_seq symbols (i + 3)) (sequence_end symbols (i + 1)) y e2
@@ -109,7 +109,7 @@ module _ (symbols : List Symbol) where
       (seq_read (i + 3) s e3) (at symbols s.1 symbol.Semicolon h))
 
   property_read : (i : ℕ) (y : RawItem × ℕ) → At symbols i symbol.Property → property_at symbols i ≡ Some y → Item i y
-  unfolding property_at property_end
+  unfolding property_at
   property_read i y d e =
       needed _ _ y e λ n e1. needed _ _ y e1
       λ a e2. bound (whole_prop symbols (i + 3)) (property_end symbols (i + 1)) y e2

@@ -73,7 +73,7 @@ module _ (symbols : List Symbol) where
 
   whole_seq_spelled : {s : RawSere} {i j : ℕ} → IsSeq symbols 64 s i j → 17 < follow (symbol_at symbols j)
       → whole_seq symbols i ≡ Some (s, j)
-  unfolding whole_seq as_seq whole_prop
+  unfolding whole_seq whole_prop
   whole_seq_spelled {s = s} {i = i} {j = j} p h =
       then (whole_prop symbols i) (as_seq symbols) (seq s false, j) _ (seq_spelled symbols p h)
       (that_way _ _ _ _ (seq_end symbols p) refl)
@@ -142,7 +142,7 @@ module _ (symbols : List Symbol) where
   sequence_spelled : {s : RawSere} (i j : ℕ) → AnyName symbols (i + 1) → At symbols (i + 2) symbol.Equal
       → IsSeq symbols 64 s (i + 3) j
       → At symbols j symbol.Semicolon → sequence_at symbols i ≡ Some (raw.RawItem.sequence (i + 1) s, j + 1)
-  unfolding sequence_at sequence_end
+  unfolding sequence_at
   sequence_spelled {s = s} i j n a p c =
       has _ _ _ n (has _ _ _ (at symbols (i + 2) symbol.Equal a)
       (then (whole_seq symbols (i + 3)) (sequence_end symbols (i + 1)) (s, j) _
@@ -151,7 +151,7 @@ module _ (symbols : List Symbol) where
   property_spelled : {p : RawProp} (i j : ℕ) → AnyName symbols (i + 1) → At symbols (i + 2) symbol.Equal
       → IsProp symbols 64 prop p (i + 3) j
       → At symbols j symbol.Semicolon → property_at symbols i ≡ Some (raw.RawItem.property (i + 1) p, j + 1)
-  unfolding property_at property_end
+  unfolding property_at
   property_spelled {p = q} i j n a p c =
       has _ _ _ n (has _ _ _ (at symbols (i + 2) symbol.Equal a)
       (then (whole_prop symbols (i + 3)) (property_end symbols (i + 1)) (q, j) _

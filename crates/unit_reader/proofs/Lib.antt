@@ -10,8 +10,10 @@ pub mod SereSpells
 pub mod PropReads
 pub mod PropSound
 pub mod PropFacts
+pub mod PropPlain
 pub mod PropSpells
 pub mod ItemReads
 pub mod ItemSpells
+pub mod Noting
 pub mod Learning
 pub mod UnitReads

@@ -11,7 +11,7 @@ use Rattle.psl_grammar.specs.RawSere.{RawSere, repeat}
 use Rattle.psl_grammar.specs.ExprGrammar.{IsExpr, whole, bit, part, literally, parens, prefixed, joined, chosen, looser}
 use Rattle.psl_grammar.specs.SereGrammar.{IsTimes, IsPick, IsTimed, IsSere, IsSeq, IsCounts, single, range}
 use Rattle.psl_grammar.specs.SereGrammar as seres
-use Rattle.psl_grammar.specs.PropGrammar.{IsCount, IsRange, IsParen, paren, IsNextForm, Phrase, is_bool, IsProp}
+use Rattle.psl_grammar.specs.PropGrammar.{IsCount, IsRange, paren, IsNextForm, Phrase, IsProp}
 use Rattle.psl_grammar.specs.PropGrammar as g
 use Rattle.unit_reader.specs.inner.Steps.{is, is_at}
 use Rattle.unit_reader.specs.inner.SereReaders.{is_times}
@@ -352,7 +352,7 @@ module _ (symbols : List Symbol) where
   tight_end (seres.alone c) none = times_end c
   tight_end (seres.IsSere.again p c) none = times_end c
   tight_end (seres.timed p) none = absurd (omega (arith, none))
-  tight_end (seres.joins l o r) none = absurd (omega (arith, none))
+  tight_end (seres.joins lt l o r) none = absurd (omega (arith, none))
   tight_end (seres.looser p) none = absurd (omega (arith, none))
 
   repeat_end : {room : ℕ} {braced : Bool} {s : RawSere} {mark : ℕ} {low high : Option ℕ} {i j : ℕ}

@@ -9,9 +9,9 @@ use Rattle.psl_grammar.specs.RawSere.{RawSere}
 use Rattle.psl_grammar.specs.RawSere as sere
 use Rattle.psl_grammar.specs.RawProp.{RawProp, bool, seq, abort}
 use Rattle.psl_grammar.specs.ExprGrammar.{IsExpr, Ends, joined, looser}
-use Rattle.psl_grammar.specs.SereGrammar.{IsSere, IsTimed, IsSeq}
+use Rattle.psl_grammar.specs.SereGrammar.{IsTimed, IsSeq}
 use Rattle.psl_grammar.specs.SereGrammar as seres
-use Rattle.psl_grammar.specs.PropGrammar.{IsCount, IsRange, IsParen, paren, IsNextForm, Phrase, is_bool, are_bool}
+use Rattle.psl_grammar.specs.PropGrammar.{IsCount, IsRange, IsParen, IsNextForm, Phrase}
 use Rattle.psl_grammar.specs.PropGrammar.{IsProp}
 use Rattle.psl_grammar.specs.PropGrammar as g
 use Rattle.unit_reader.specs.inner.Steps.{◌>>=◌, is_at, loop}

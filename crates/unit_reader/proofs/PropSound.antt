@@ -7,7 +7,7 @@ use Rattle.psl_grammar.specs.RawSere.{RawSere}
 use Rattle.psl_grammar.specs.RawProp.{RawProp, bool, seq, next, suffix}
 use Rattle.psl_grammar.specs.ExprGrammar.{parens, prefixed}
 use Rattle.psl_grammar.specs.SereGrammar.{IsSere}
-use Rattle.psl_grammar.specs.PropGrammar.{IsNextForm, Phrase, is_bool, IsProp}
+use Rattle.psl_grammar.specs.PropGrammar.{Phrase, IsProp}
 use Rattle.psl_grammar.specs.PropGrammar as g
 use Rattle.unit_reader.specs.inner.Steps.{◌>>=◌, need, either_way, is_at}
 use Rattle.unit_reader.specs.inner.ExprReaders.{operand_in}

@@ -138,7 +138,7 @@ module _ (symbols : List Symbol) where
   sere_bounds (alone c) = times_bounds c
   sere_bounds (grammar.IsSere.again p c) = let a = sere_bounds p in let b = times_bounds c in (omega arith, b.1)
   sere_bounds (timed p) = timed_bounds p
-  sere_bounds (joins l o r) = let a = sere_bounds l in let b = sere_bounds r in (omega arith, b.1)
+  sere_bounds (joins lt l o r) = let a = sere_bounds l in let b = sere_bounds r in (omega arith, b.1)
   sere_bounds (looser p) = sere_bounds p
 
   tight_starts : {room level : ℕ} {s : RawSere} {i j : ℕ} → IsSere symbols room level s i j → level ≡ 0
@@ -148,7 +148,7 @@ module _ (symbols : List Symbol) where
   tight_starts (alone {i = i} c) none = times_begin_sequence (symbol_at symbols i) (times_begin c)
   tight_starts (grammar.IsSere.again p c) none = tight_starts p refl
   tight_starts (timed p) none = absurd (omega (arith, none))
-  tight_starts (joins l o r) none = absurd (omega (arith, none))
+  tight_starts (joins lt l o r) none = absurd (omega (arith, none))
   tight_starts (looser p) none = absurd (omega (arith, none))
 
   pub tight_begins : {room : ℕ} {s : RawSere} {i j : ℕ} → IsSere symbols room 0 s i j

@@ -1,6 +1,6 @@
 -- What is read is a repetition, or a sequence.
-use Rattle.std.proofs.Common.{◌≡◌, ℕ, zero, suc, ◌+◌, Bool, true, IsTrue, Option, Some, List, length, refl, sym, subst}
-use Rattle.std.proofs.Common.{arith}
+use Rattle.std.proofs.Common.{◌≡◌, ℕ, zero, suc, ◌+◌, ◌<◌, Bool, true, IsTrue, Option, Some, List, length, refl, sym}
+use Rattle.std.proofs.Common.{subst, arith}
 use Rattle.std.proofs.lemmas.Bool.{eqb-true}
 use Rattle.std.proofs.lemmas.Bool.Decides.{nat_tests}
 use Rattle.std.specs.Prelude.{nat_lt}
@@ -200,24 +200,25 @@ module _ (symbols : List Symbol) where
       one_way _ _ _ y e (λ _ e1. looser (tight_read room i y cat e1)) λ _ e1. timed (timed_read room true i y e1)
 
   above_read : (room : ℕ) → ((n : ℕ) (x : RawSere × ℕ) → cat_at symbols room n ≡ Some x → Opened room n x)
-      → (k i : ℕ) (y : RawSere × ℕ) → levels_above symbols (elem_in symbols room) k i ≡ Some y → Sere room (suc k) i y
+      → (k i : ℕ) (y : RawSere × ℕ) → k < 6 → levels_above symbols (elem_in symbols room) k i ≡ Some y
+      → Sere room (suc k) i y
   unfolding levels_above sere_join_with Sere
-  above_read room cat zero i y e = elem_read room i y cat e
-  above_read room cat (suc k) i y e =
+  above_read room cat zero i y lt e = elem_read room i y cat e
+  above_read room cat (suc k) i y lt e =
       bound _ _ y e
       λ x e1 e2. loop_reads (sere_joins symbols (suc (suc k)))
       (sere_join_with symbols (levels_above symbols (elem_in symbols room) k)) (Sere room (suc (suc k)) i)
       (λ a b more pa step. bound (levels_above symbols (elem_in symbols room) k (a.1 + 1))
       (λ r. Some (join a.1 a.0 r.0, r.1)) b step
       λ r e3 e4. given (Sere room (suc (suc k)) i) e4
-      (joins pa (eqb-true (sere_level (symbol_at symbols a.1)) (suc (suc k)) more)
-      (above_read room cat k (a.1 + 1) r e3)))
-      (suc (length symbols)) x y (looser (above_read room cat k i x e1)) e2
+      (joins lt pa (eqb-true (sere_level (symbol_at symbols a.1)) (suc (suc k)) more)
+      (above_read room cat k (a.1 + 1) r (omega (arith, lt)) e3)))
+      (suc (length symbols)) x y (looser (above_read room cat k i x (omega (arith, lt)) e1)) e2
 
   pub cat_read : (room n : ℕ) (x : RawSere × ℕ) → cat_at symbols room n ≡ Some x → Opened room n x
   unfolding cat_at Opened
   cat_read zero n x e = absurd (cc)
-  cat_read (suc r) n x e = above_read r (cat_read r) 5 n x e
+  cat_read (suc r) n x e = above_read r (cat_read r) 5 n x (omega arith) e
 
   pub tight_is : (room i : ℕ) (y : RawSere × ℕ) → tight_in symbols room i ≡ Some y → IsSere symbols room 0 y.0 i y.1
   unfolding Sere

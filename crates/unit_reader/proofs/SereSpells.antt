@@ -271,7 +271,7 @@ module _ (symbols : List Symbol) where
       again_way (tight_in symbols room i) s m j (spelled p) c (sere_bounds symbols p).1
   spelled {room = room} (timed {s = s} {i = i} {j = j} p) = λ h. elem_timed room s i j (timed_apart symbols p)
       (timed_spelled p h)
-  spelled {room = room} (joins {k = k} {l = l} {r = r} {i = i} {m = m} {j = j} p o q) =
+  spelled {room = room} (joins {k = k} {l = l} {r = r} {i = i} {m = m} {j = j} lt p o q) =
       join_case room k l r i m j o (sere_bounds symbols p) (sere_bounds symbols q) (spelled p) (spelled q)
   spelled {room = room} (looser {k = k} {s = s} {i = i} {j = j} p) =
       looser_case room k s i j (begins_if k p) (sere_bounds symbols p).1 (spelled p)

@@ -17,7 +17,7 @@ use Rattle.psl_grammar.specs.RawUnit as raw
 use Rattle.psl_grammar.specs.RawUnit.{RawItem, RawUnit}
 use Rattle.psl_grammar.specs.Symbols.{symbol_at, At}
 use Rattle.psl_grammar.specs.ItemGrammar.{IsItem, IsShort}
-use Rattle.psl_grammar.specs.Units.{Known, kind_symbol, meaning_of, bytes_of, symbol_in, symbols_in, known_after}
+use Rattle.psl_grammar.specs.Units.{Known, kind_symbol, meaning_of, bytes_of, symbols_in, known_after}
 use Rattle.psl_grammar.specs.Units.{outside, AreItems, none, more, IsUnit, plain}
 use Rattle.psl_grammar.specs.Units as units
 use Rattle.unit_reader.specs.inner.Steps.{◌>>=◌, need, is_at, Read}

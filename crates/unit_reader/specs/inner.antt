@@ -6,7 +6,7 @@ pub mod FormReaders
 pub mod PropReaders
 pub mod ItemReaders
 pub mod UnitReaders
-pub mod Learned
+pub mod Namesakes
 pub mod Bodies
 pub mod ReadViews
 pub mod Answers

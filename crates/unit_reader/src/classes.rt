@@ -1,17 +1,18 @@
 //! What the grammar sees of tokens, and how names get their meanings.
 
-ghost use Rattle.std.specs.Prelude.{◌≡◌, ◌<◌, ◌≤◌, ◌∷◌, List, All, length, map, slice_index_or, IfOk, IfErr};
-ghost use Rattle.psl_grammar.specs.Symbols.{symbol_at};
+ghost use Rattle.std.specs.Prelude.{◌≡◌, ◌<◌, ◌≤◌, ◌∷◌, All, length, map, set, slice_index_or, IfOk, IfErr};
 ghost use Rattle.psl_lexer.specs.Order.{LiesWithin};
 ghost use Rattle.unit_reader.specs.declared.errors.ParseError.TheVariants.{OutOfMemory};
-ghost use Rattle.psl_grammar.specs.Units.{Known, word_symbol, mark_symbol, kind_symbol, bytes_of, symbol_in};
+ghost use Rattle.psl_grammar.specs.Units.{Known, word_symbol, mark_symbol, kind_symbol, bytes_of};
 ghost use Rattle.psl_grammar.specs.Units.{symbols_in, no_token, name_at, learned};
-ghost use Rattle.unit_reader.specs.inner.Learned.{relearned};
+ghost use Rattle.unit_reader.specs.inner.Namesakes.{AreNoted, has_before};
 
 use crate::errors::ParseError;
-use crate::symbols::{is_name, symbol_at};
+use crate::namesakes::Namesakes;
+use crate::symbols::{is_at, is_name, symbol_at};
 use psl_grammar::Symbol;
 use psl_lexer::{Key, Kind, Mark, Token};
+use psl_model::Name;
 use std::alloc::{AllocError, Global};
 
 fn word_symbol(word: Key) -> Symbol
@@ -109,7 +110,7 @@ pub fn classify(alloc: Global, tokens: &[Token]) -> Result<Vec<Symbol>, AllocErr
         .collect(alloc)
 }
 
-fn token_at(tokens: &[Token], place: u32) -> Token
+pub fn token_at(tokens: &[Token], place: u32) -> Token
     ensures { result ≡ slice_index_or tokens.now place no_token }
 {
     match tokens.get(place as usize) {
@@ -130,7 +131,7 @@ fn token_bytes(text: &[u8], token: Token) -> &[u8]
 }
 
 /// The bytes of a token.
-fn bytes_at<'a>(text: &'a [u8], tokens: &[Token], place: u32) -> &'a [u8]
+pub fn bytes_at<'a>(text: &'a [u8], tokens: &[Token], place: u32) -> &'a [u8]
     requires within { All (LiesWithin text.now) tokens.now }
     requires place { place < length tokens.now }
     ensures { result.now ≡ name_at text.now tokens.now place }
@@ -138,62 +139,53 @@ fn bytes_at<'a>(text: &'a [u8], tokens: &[Token], place: u32) -> &'a [u8]
     token_bytes(text, token_at(tokens, place))
 }
 
-/// What the grammar sees of a token, where one more name has a meaning.
-fn relearned(
-    text: &[u8],
-    tokens: &[Token],
-    old: Symbol,
-    place: u32,
-    name: &[u8],
-    meaning: Symbol,
-) -> Symbol
-    requires within { All (LiesWithin text.now) tokens.now }
-    requires place { place < length tokens.now }
-    ensures { result ≡ relearned text.now (slice_index_or tokens.now place no_token) old name.now meaning }
+/// Puts a symbol at a place.
+fn with_symbol(symbols: Vec<Symbol>, place: u32, symbol: Symbol) -> Vec<Symbol>
+    requires { place < length symbols.items }
+    ensures { result.items ≡ set symbols.items place symbol }
 {
-    let bytes = bytes_at(text, tokens, place);
-    match token_at(tokens, place).kind {
-        Kind::Name => {
-            if name == bytes {
-                return meaning;
-            }
-            old
-        }
-        _ => old,
-    }
+    let mut all = symbols;
+    all[place as usize] = symbol;
+    all
 }
 
-/// What the grammar sees of tokens, where one more name has a meaning.
+/// Whether the token right before a place has a meaning, or the place is the first one.
+fn has_before(symbols: &[Symbol], place: u32, meaning: Symbol) -> bool
+    ensures { result ≡ has_before symbols.now place meaning }
+{
+    if place == 0 {
+        return true;
+    }
+    is_at(symbols, place - 1, meaning)
+}
+
+/// A name gets a meaning: the tokens with it are gone through from the last one on.
 fn learn(
-    alloc: Global,
     text: &[u8],
     tokens: &[Token],
-    symbols: &[Symbol],
-    name: u32,
+    names: &Namesakes,
+    symbols: Vec<Symbol>,
+    name: &Name,
     meaning: Symbol,
-) -> Result<Vec<Symbol>, AllocError>
+) -> Vec<Symbol>
     requires few { length tokens.now ≤ 1048576 }
-    requires within { All (LiesWithin text.now) tokens.now }
-    requires name { name < length tokens.now }
-    ensures { (known : Known) → symbols.now ≡ symbols_in text.now known tokens.now
-        → IfOk result (λ all. all.items ≡ symbols_in text.now ((name_at text.now tokens.now name, meaning) ∷ known)
-        tokens.now) }
+    requires many { length symbols.items ≡ length tokens.now }
+    requires noted { AreNoted text.now tokens.now (length tokens.now) names.now }
+    ensures { (known : Known) → symbols.items ≡ symbols_in text.now known tokens.now
+        → result.items ≡ symbols_in text.now ((name.now, meaning) ∷ known) tokens.now }
 {
-    let bytes = bytes_at(text, tokens, name);
-    let mut all = Vec::new(alloc);
-    let count = tokens.len() as u32;
-    'tokens: for place in 0..count {
-        let symbol = relearned(
-            text,
-            tokens,
-            symbol_at(symbols, place),
-            place,
-            bytes,
-            meaning,
-        );
-        all.push(symbol)?;
+    let latest = names.last(name);
+    if has_before(&symbols, latest, meaning) {
+        return symbols;
     }
-    Ok(all)
+    let mut all = symbols;
+    let mut above = latest;
+    'above: while 0 < above {
+        let place = above - 1;
+        all = with_symbol(all, place, meaning);
+        above = names.before(place);
+    }
+    all
 }
 
 /// A name gets a meaning, also where it had another.
@@ -202,12 +194,15 @@ pub fn learn_name(
     alloc: Global,
     text: &[u8],
     tokens: &[Token],
+    names: &Namesakes,
     symbols: Vec<Symbol>,
     name: u32,
     meaning: Symbol,
 ) -> Result<Vec<Symbol>, ParseError>
     requires few { length tokens.now ≤ 1048576 }
     requires within { All (LiesWithin text.now) tokens.now }
+    requires many { length symbols.items ≡ length tokens.now }
+    requires noted { AreNoted text.now tokens.now (length tokens.now) names.now }
     ensures learned { (known : Known) → symbols.items ≡ symbols_in text.now known tokens.now
         → IfOk result (λ all. all.items ≡ symbols_in text.now (learned text.now tokens.now known name meaning)
         tokens.now) }
@@ -219,8 +214,8 @@ pub fn learn_name(
     if name as usize >= tokens.len() {
         return Ok(symbols);
     }
-    match learn(alloc, text, tokens, &symbols, name, meaning) {
-        Ok(all) => Ok(all),
+    match Name::new(alloc, bytes_at(text, tokens, name)) {
+        Ok(bytes) => Ok(learn(text, tokens, names, symbols, &bytes, meaning)),
         Err(_) => Err(ParseError::OutOfMemory),
     }
 }

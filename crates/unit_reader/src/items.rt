@@ -124,7 +124,7 @@ fn read_whole_prop(
 }
 
 /// A sequence that stands in no open phrase.
-#[tactic(auto, using(crate::proofs::Loops::stopped), unfolding(crate::specs::inner::ItemReaders::whole_seq, crate::specs::inner::ItemReaders::as_seq))]
+#[tactic(auto, using(crate::proofs::Loops::stopped), unfolding(crate::specs::inner::ItemReaders::whole_seq))]
 fn read_whole_seq(
     alloc: Global,
     symbols: &[Symbol],
@@ -264,7 +264,7 @@ fn read_wire(alloc: Global, symbols: &[Symbol], from: u32) -> Result<(RawItem, u
 }
 
 /// A named sequence.
-#[tactic(auto, using(crate::proofs::Loops::stopped), unfolding(crate::specs::inner::ItemReaders::sequence_at, crate::specs::inner::ItemReaders::sequence_end))]
+#[tactic(auto, using(crate::proofs::Loops::stopped), unfolding(crate::specs::inner::ItemReaders::sequence_at))]
 fn read_sequence(alloc: Global, symbols: &[Symbol], from: u32) -> Result<(RawItem, u32), ParseError>
     requires few { length symbols.now ≤ 1048576 }
     requires within { from ≤ length symbols.now }
@@ -287,7 +287,7 @@ fn read_sequence(alloc: Global, symbols: &[Symbol], from: u32) -> Result<(RawIte
 }
 
 /// A named property.
-#[tactic(auto, using(crate::proofs::Loops::stopped), unfolding(crate::specs::inner::ItemReaders::property_at, crate::specs::inner::ItemReaders::property_end))]
+#[tactic(auto, using(crate::proofs::Loops::stopped), unfolding(crate::specs::inner::ItemReaders::property_at))]
 fn read_property(alloc: Global, symbols: &[Symbol], from: u32) -> Result<(RawItem, u32), ParseError>
     requires few { length symbols.now ≤ 1048576 }
     requires within { from ≤ length symbols.now }

@@ -7,6 +7,7 @@ mod errors;
 mod expressions;
 mod items;
 pub mod laws;
+mod namesakes;
 mod next_forms;
 mod operators;
 mod properties;

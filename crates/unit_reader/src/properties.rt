@@ -408,7 +408,8 @@ fn read_until(
     requires few { length symbols.now ≤ 1048576 }
     requires within { mark ≤ length symbols.now }
     requires room { room ≤ 64 }
-    ensures gives { Gives prop_read result (until_with symbols.now (prop_at symbols.now room) room (prop_of left, mark)) }
+    ensures gives { Gives prop_read result (until_with symbols.now (prop_at symbols.now room) room
+        (prop_of left, mark)) }
     ensures some { IfOk result (λ read. mark ≤ read.1) }
     ensures end { IfOk result (λ read. read.1 ≤ length symbols.now) }
 {

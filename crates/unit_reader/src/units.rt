@@ -11,11 +11,13 @@ ghost use Rattle.unit_reader.specs.inner.Answers.{Gives, Halts};
 ghost use Rattle.unit_reader.specs.inner.ReadViews.{item_read, items_read};
 ghost use Rattle.unit_reader.specs.inner.Steps.{is_at};
 ghost use Rattle.unit_reader.specs.inner.ItemReaders.{is_short};
+ghost use Rattle.unit_reader.specs.inner.Namesakes.{AreNoted};
 ghost use Rattle.unit_reader.specs.inner.UnitReaders.{short_at, items_at, unit_end, bound_unit, unit_read};
 
 use crate::classes::{classify, learn_name};
 use crate::errors::ParseError;
 use crate::items::{name_here, read_item};
+use crate::namesakes::{Namesakes, note_names};
 use crate::symbols::is_at;
 use psl_grammar::{RawItem, RawUnit, Symbol};
 use psl_lexer::Token;
@@ -62,11 +64,14 @@ fn behind_item(
     alloc: Global,
     text: &[u8],
     tokens: &[Token],
+    names: &Namesakes,
     symbols: Vec<Symbol>,
     item: &RawItem,
 ) -> Result<Vec<Symbol>, ParseError>
     requires few { length tokens.now ≤ 1048576 }
     requires within { All (LiesWithin text.now) tokens.now }
+    requires many { length symbols.items ≡ length tokens.now }
+    requires noted { AreNoted text.now tokens.now (length tokens.now) names.now }
     ensures known { (known : Known) → symbols.items ≡ symbols_in text.now known tokens.now
         → IfOk result (λ all. all.items ≡ symbols_in text.now (known_after text.now tokens.now known (item_of item.now))
         tokens.now) }
@@ -74,10 +79,26 @@ fn behind_item(
 {
     match item {
         RawItem::Sequence { name, .. } => {
-            learn_name(alloc, text, tokens, symbols, *name, Symbol::SequenceName)
+            learn_name(
+                alloc,
+                text,
+                tokens,
+                names,
+                symbols,
+                *name,
+                Symbol::SequenceName,
+            )
         }
         RawItem::Property { name, .. } => {
-            learn_name(alloc, text, tokens, symbols, *name, Symbol::PropertyName)
+            learn_name(
+                alloc,
+                text,
+                tokens,
+                names,
+                symbols,
+                *name,
+                Symbol::PropertyName,
+            )
         }
         _ => Ok(symbols),
     }
@@ -88,6 +109,7 @@ fn read_step(
     alloc: Global,
     text: &[u8],
     tokens: &[Token],
+    names: &Namesakes,
     symbols: Vec<Symbol>,
     from: u32,
 ) -> Result<(RawItem, Vec<Symbol>, u32), ParseError>
@@ -95,6 +117,7 @@ fn read_step(
     requires tokens { length tokens.now ≡ length symbols.items }
     requires within { All (LiesWithin text.now) tokens.now }
     requires place { from ≤ length symbols.items }
+    requires noted { AreNoted text.now tokens.now (length tokens.now) names.now }
     ensures item { MatchResult result (λ read. short_at symbols.items from ≡ Some (item_of read.0, read.2))
         (λ error. Halts error (short_at symbols.items from)) }
     ensures known { (known : Known) → symbols.items ≡ symbols_in text.now known tokens.now
@@ -105,7 +128,7 @@ fn read_step(
 {
     match read_short_item(alloc, &symbols, from) {
         Err(error) => Err(error),
-        Ok((item, to)) => match behind_item(alloc, text, tokens, symbols, &item) {
+        Ok((item, to)) => match behind_item(alloc, text, tokens, names, symbols, &item) {
             Err(_) => Err(ParseError::OutOfMemory),
             Ok(all) => Ok((item, all, to)),
         },
@@ -142,10 +165,14 @@ fn read_items(
         Ok(symbols) => symbols,
         Err(_) => return Err(ParseError::OutOfMemory),
     };
+    let names = match note_names(alloc, text, tokens) {
+        Ok(names) => names,
+        Err(_) => return Err(ParseError::OutOfMemory),
+    };
     let mut items = Vec::new(alloc);
     let mut to = from;
     'items: while !is_at(plain, to, Symbol::CloseBrace) {
-        match read_step(alloc, text, tokens, symbols, to) {
+        match read_step(alloc, text, tokens, &names, symbols, to) {
             Err(error) => return Err(error),
             Ok((item, next, after)) => {
                 match put(items, item) {
@@ -175,7 +202,7 @@ fn close_unit(
     ensures gives { Gives unit_of result (unit_end text.now tokens.now (map item_of items.items, to)) }
 {
     if tokens.len() as u32 != to + 1 {
-        return Err(ParseError::Syntax { token: to });
+        return Err(ParseError::Syntax { token: to + 1 });
     }
     Ok(RawUnit { name: 1, items })
 }

@@ -38,7 +38,7 @@ is_phrase known name = is_among name known.phrases
 abbrev pub has_meaning : Known → List ℕ → Bool
 has_meaning known name = is_signal known name || is_phrase known name
 
--- how many bits a signal has that isn't declared yet
+-- how many bits a signal has, and 1 where it isn't known yet
 abbrev pub width_of_signal : Known → List ℕ → ℕ
 width_of_signal known name = unwrap_or (lookup (same_name name) known.signals) 1
 

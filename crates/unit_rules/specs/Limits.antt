@@ -19,8 +19,8 @@ node_limit = 65536
 abbrev pub first_tall : (number : ℕ) → List Placed → Option UnitError
 first_tall number [] = None
 first_tall number (d ∷ ds) =
-    if nat_lt depth_limit (prop_depth d.body) then Some (TooTall number (min (prop_depth d.body) most)) else first_tall
-    (number + 1) ds
+    if nat_lt depth_limit (prop_depth d.body) then Some (TooTall number (min (prop_depth d.body) most))
+    else first_tall (number + 1) ds
 
 -- the first directive up to which there are too many nodes, of those numbered from `number` on, where those before have
 -- `nodes`

@@ -1,6 +1,5 @@
 -- What the words and marks of a raw tree stand for. A kind of token that the grammar doesn't have at such a place
--- stands
--- for the last of each list.
+-- stands for the last of each list.
 use Rattle.std.specs.Prelude.{Bool, true, false}
 use Rattle.psl_lexer.specs.declared.kinds.Kind.{Kind}
 use Rattle.psl_lexer.specs.declared.kinds.Kind.TheVariants.{Word, Mark}

@@ -9,8 +9,7 @@ use Rattle.unit_rules.specs.Source.{Source, bytes_at}
 use Rattle.unit_rules.specs.Known.{same_name}
 
 -- the bodies of the sequences and properties that some items declare, by name. A later body takes the place of an
--- earlier
--- one of its name.
+-- earlier one of its name.
 pub record Bodies : Type 0 where
   pub sequences : List (List ℕ × sere.RawSere)
   pub properties : List (List ℕ × prop.RawProp)

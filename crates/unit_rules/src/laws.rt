@@ -16,8 +16,7 @@ ghost use Rattle.unit_rules.specs.Placed.{no_bodies, placed_items};
 ghost use Rattle.unit_rules.specs.inner.Reckoned.{no_numbers, reckoned_items, prop_measure};
 
 /// The first broken rule in the order of reading is the least by token, and at one token by the answers' list, where
-/// the
-/// tokens of the unit's places ascend.
+/// the tokens of the unit's places ascend.
 #[tactic(auto, using(crate::proofs::OrderLemmas::first_is_least))]
 pub fn the_first_broken_rule_comes_before_all()
     ensures { (s : Source) (raw : RawUnit) (fault : UnitError) → AreInOrder (unit_sites raw)

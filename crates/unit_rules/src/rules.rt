@@ -45,8 +45,7 @@ fn check_rules(
 
 /// The signals of a unit that breaks no rule, each with its width, by the numbers that they have in it. Else its first
 /// broken rule: the first in the order of reading, and at one token the first in the order of the errors; and where
-/// none
-/// is broken the first directive that nests too deep, and then the first up to which there are too many nodes.
+/// none is broken the first directive that nests too deep, and then the first up to which there are too many nodes.
 /// `OutOfMemory` where memory was refused: then nothing is said of the unit.
 pub fn check_unit(
     alloc: Global,

@@ -185,7 +185,8 @@ impl Tables {
         tokens: &[Token],
         token: u32,
     ) -> Result<(), UnitError>
-        ensures { VisitsSite (source text.now tokens.now) (known_of self.old) (phrase token) result (known_of self.new) }
+        ensures { VisitsSite (source text.now tokens.now) (known_of self.old) (phrase token) result
+            (known_of self.new) }
     {
         let name = named(alloc, text, tokens, token)?;
         refuse(self.has_meaning(&name), UnitError::DuplicateName { token })?;

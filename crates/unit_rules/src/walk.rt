@@ -140,7 +140,8 @@ impl Walk {
         tokens: &[Token],
         token: u32,
     ) -> Result<(), AllocError>
-        ensures { OnOk result (state_of self.new ≡ visit (source text.now tokens.now) (state_of self.old) (label token)) }
+        ensures { OnOk result (state_of self.new ≡ visit (source text.now tokens.now) (state_of self.old)
+            (label token)) }
     {
         if self.has_stopped() {
             return Ok(());

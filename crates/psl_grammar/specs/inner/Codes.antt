@@ -2,7 +2,7 @@
 use Rattle.std.specs.Prelude.{◌≡◌, ℕ, Option, refl}
 use Rattle.std.specs.Coded.{Coded, coded_ℕ, coded_bool, coded_option, coded×}
 use base.Stored.{Gv, gnum, gcons}
-use Rattle.psl_grammar.specs.inner.CodeParts.{at, from, number, tags_differ}
+use Rattle.psl_model.specs.inner.CodeParts.{at, from, number, tags_differ}
 use Rattle.psl_grammar.specs.RawExpr.{RawExpr, name, literal, unary, binary, choice}
 use Rattle.psl_grammar.specs.RawSere as s
 use Rattle.psl_grammar.specs.RawProp as p

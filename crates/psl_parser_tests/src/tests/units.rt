@@ -59,6 +59,8 @@ fn what_is_no_unit_is_refused(rt: HostRuntime) {
         (b"vunit u { default clock = c; }", 6),
         (b"vunit u { assert a report; }", 6),
         (b"vunit u { ; }", 3),
+        (b"vunit u { } assert a;", 4),
+        (b"vunit u { assert a; } }", 7),
     ] {
         let fault = ParseError::Syntax { token };
         assert!(rt; unit_gives(rt.alloc(), text, Err(fault)), "{text:?}");

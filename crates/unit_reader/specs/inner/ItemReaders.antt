@@ -34,7 +34,7 @@ module _ (symbols : List Symbol) where
   unfoldable pub whole_prop : ℕ → Read RawProp
   whole_prop i = prop_with symbols (prop_at symbols 64) 64 i
 
-  unfoldable pub as_seq : RawProp × ℕ → Read RawSere
+  abbrev pub as_seq : RawProp × ℕ → Read RawSere
   as_seq p = either_way (is_at symbols (p.1 - 1) symbol.CloseParenthesis) None (sequence_of p.0 >>= λ s. Some (s, p.1))
 
   unfoldable pub whole_seq : ℕ → Read RawSere
@@ -68,14 +68,14 @@ module _ (symbols : List Symbol) where
       (range_end symbols (i + 1) >>= λ j. names_at j >>= wire_end (Some (i + 2, i + 4)))
       (names_at (i + 1) >>= wire_end None)
 
-  unfoldable pub sequence_end : (name : ℕ) → RawSere × ℕ → Read RawItem
+  abbrev pub sequence_end : (name : ℕ) → RawSere × ℕ → Read RawItem
   sequence_end name s = need (is_at symbols s.1 symbol.Semicolon) (Some (raw.RawItem.sequence name s.0, s.1 + 1))
 
   unfoldable pub sequence_at : ℕ → Read RawItem
   sequence_at i =
       need (name_here (i + 1)) (need (is_at symbols (i + 2) symbol.Equal) (whole_seq (i + 3) >>= sequence_end (i + 1)))
 
-  unfoldable pub property_end : (name : ℕ) → RawProp × ℕ → Read RawItem
+  abbrev pub property_end : (name : ℕ) → RawProp × ℕ → Read RawItem
   property_end name p = need (is_at symbols p.1 symbol.Semicolon) (Some (raw.RawItem.property name p.0, p.1 + 1))
 
   unfoldable pub property_at : ℕ → Read RawItem

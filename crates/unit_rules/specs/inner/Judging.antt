@@ -1,6 +1,5 @@
 -- What a visit of sites answers: nothing where there is no fault, else the first fault, or want of memory; and the
--- state
--- that goes from site to site and keeps the first fault.
+-- state that goes from site to site and keeps the first fault.
 use Rattle.std.specs.Prelude.{◌≡◌, ◌⊎◌, Bool, Option, None, Some, Result, Ok, Err, List, [], slice_get, fold}
 use Rattle.unit_rules.specs.declared.errors.UnitError.{UnitError}
 use Rattle.unit_rules.specs.declared.errors.UnitError.TheVariants.{OutOfMemory}
