@@ -1,0 +1,4 @@
+pub mod Parts
+pub mod InOrder
+pub mod NewPhrases
+pub mod Directives

@@ -1,0 +1,6 @@
+use Rattle.std.proofs.Common.{◌≡◌, map}
+use Rattle.psl_units.specs.Unit.{signal_for}
+use Rattle.psl_units.proofs.naming.build_signals.Given as goal
+
+abbrev pub invariant-loop : goal.invariant-loop
+invariant-loop l = l.built.items ≡ map signal_for l.yielded

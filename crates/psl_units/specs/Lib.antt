@@ -1,0 +1,5 @@
+pub mod Trees
+pub mod Before
+pub mod Unit
+pub mod StandsForUnit
+pub mod inner

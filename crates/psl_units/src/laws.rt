@@ -1,0 +1,32 @@
+//! What follows from the definition of a unit. The functions do nothing: each contract is the law.
+
+ghost use Rattle.std.specs.Prelude.{◌≡◌, ℕ, List, Some, slice_get};
+ghost use Rattle.psl_grammar.specs.RawUnit.{RawUnit};
+ghost use Rattle.psl_grammar.specs.Units.{IsUnit};
+ghost use Rattle.psl_lexer.specs.declared.kinds.Token.{Token};
+ghost use Rattle.unit_rules.specs.declared.errors.UnitError.{UnitError};
+ghost use Rattle.unit_rules.specs.Faults.{unit_faults};
+ghost use Rattle.unit_rules.specs.Order.{AreInOrder, ComesBeforeAll};
+ghost use Rattle.unit_rules.specs.Sites.{unit_sites};
+ghost use Rattle.unit_rules.specs.Source.{source};
+
+use psl_grammar::laws::a_unit_names_its_tokens_in_order;
+use unit_rules::laws::the_first_broken_rule_comes_before_all;
+
+/// The tokens at which a unit may break a rule ascend in the order of reading.
+pub fn places_of_a_unit_are_in_order()
+    ensures { (text : List ℕ) (tokens : List Token) (raw : RawUnit) → IsUnit text tokens raw
+        → AreInOrder (unit_sites raw) }
+{
+    a_unit_names_its_tokens_in_order();
+}
+
+/// So the first broken rule of a unit is the least by token, and at one token by the list of the answers.
+pub fn a_units_first_broken_rule_comes_before_all()
+    ensures { (text : List ℕ) (tokens : List Token) (raw : RawUnit) (fault : UnitError) → IsUnit text tokens raw
+        → slice_get (unit_faults (source text tokens) raw) 0 ≡ Some fault
+        → ComesBeforeAll fault (unit_faults (source text tokens) raw) }
+{
+    places_of_a_unit_are_in_order();
+    the_first_broken_rule_comes_before_all();
+}

@@ -1,0 +1,153 @@
+//! The call that makes a unit of its raw tree.
+
+ghost use Rattle.std.specs.Prelude.{◌≡◌, ◌⊎◌, ◌+◌, ◌<◌, ◌^◌, ◌++◌, None, Some, All, IfOk, IfErr, OnOk, length, map};
+ghost use Rattle.std.specs.Prelude.{option_map};
+ghost use Rattle.psl_model.specs.FormulaView.{formula_of};
+ghost use Rattle.psl_model.specs.UnitView.{directive_of, unit_of};
+ghost use Rattle.psl_grammar.specs.UnitView.{item_of, unit_of as raw_unit_of};
+ghost use Rattle.unit_rules.specs.Source.{source, bytes_at};
+ghost use Rattle.unit_rules.specs.Known.{unit_signals};
+ghost use Rattle.unit_rules.specs.Fitting.{ItemFits};
+ghost use Rattle.unit_rules.specs.Limits.{refusal};
+ghost use Rattle.unit_rules.specs.Placed.{no_bodies, placed_item, placed_items};
+ghost use Rattle.unit_rules.specs.declared.errors.UnitError.TheVariants.{OutOfMemory};
+ghost use Rattle.psl_units.specs.Unit.{report_at, directive_for, unit_for};
+ghost use Rattle.psl_units.specs.inner.Scopes.{AreNames, IsScope, bodies_of};
+
+use crate::formulas::build_formula;
+use crate::names::{Names, Scope, names_of};
+use crate::naming::{build_signals, label_at, name_at, report_at};
+use indexmap::IndexMap;
+use psl_grammar::{RawItem, RawUnit};
+use psl_lexer::Token;
+use psl_model::{Directive, Formula, Name, PslUnit};
+use sqlite_items::Items;
+use std::alloc::{AllocError, Global};
+use unit_rules::{UnitError, check_unit};
+
+// A directive with a formula.
+fn build_directive(
+    alloc: Global,
+    text: &[u8],
+    tokens: &[Token],
+    label: Option<u32>,
+    report: Option<u32>,
+    formula: Formula,
+) -> Result<Directive, AllocError>
+    ensures { IfOk result (λ d. directive_of d ≡ record {
+        label = option_map (bytes_at (source text.now tokens.now)) label;
+        report = option_map (report_at (source text.now tokens.now)) report;
+        formula = formula_of formula }) }
+{
+    let label = label_at(alloc, text, tokens, label)?;
+    let report = report_at(alloc, text, tokens, report)?;
+    Ok(Directive {
+        label,
+        report,
+        formula,
+    })
+}
+
+// Puts the directive that an item is, if it is one, behind others.
+fn put_directive(
+    alloc: Global,
+    text: &[u8],
+    tokens: &[Token],
+    signals: &IndexMap<Name, u32>,
+    scope: &Scope,
+    item: &RawItem,
+    directives: &mut Vec<Directive>,
+) -> Result<(), AllocError>
+    requires scoped { IsScope (source text.now tokens.now) scope.now }
+    requires fits { ItemFits (source text.now tokens.now) (item_of item.now) }
+    ensures { OnOk result (map directive_of directives.new.items ≡ map directive_of directives.old.items
+        ++ map (directive_for (source text.now tokens.now) signals.now.entries)
+        (placed_item (source text.now tokens.now) (bodies_of (source text.now tokens.now) scope.now)
+        (item_of item.now))) }
+{
+    match item {
+        RawItem::Assert {
+            label,
+            body,
+            report,
+            ..
+        } => {
+            let formula = build_formula(alloc, text, tokens, signals, scope, body)?;
+            let directive = build_directive(alloc, text, tokens, *label, *report, formula)?;
+            directives.push(directive)?;
+            Ok(())
+        }
+        _ => Ok(()),
+    }
+}
+
+// The directives of some items, in their order.
+fn build_directives(
+    alloc: Global,
+    text: &[u8],
+    tokens: &[Token],
+    signals: &IndexMap<Name, u32>,
+    items: &[RawItem],
+    names: &Names,
+) -> Result<Vec<Directive>, AllocError>
+    requires fit { All (λ item. ItemFits (source text.now tokens.now) (item_of item)) items.now }
+    requires named { AreNames (source text.now tokens.now) items.now (length items.now) names.now }
+    ensures { IfOk result (λ built. map directive_of built.items
+        ≡ map (directive_for (source text.now tokens.now) signals.now.entries)
+        (placed_items (source text.now tokens.now) no_bodies (map item_of items.now))) }
+{
+    let mut directives = Vec::new(alloc);
+    for upto in 0..items.len() {
+        let scope = Scope { items, names, upto };
+        let item = &items[upto];
+        put_directive(alloc, text, tokens, signals, &scope, item, &mut directives)?;
+    }
+    Ok(directives)
+}
+
+// The unit of a raw tree that nothing refuses.
+fn build_unit(
+    alloc: Global,
+    text: &[u8],
+    tokens: &[Token],
+    raw: &RawUnit,
+    signals: IndexMap<Name, u32>,
+) -> Result<PslUnit, AllocError>
+    requires lawful { refusal (source text.now tokens.now) (raw_unit_of raw.now) ≡ None }
+    requires fit { All (λ item. ItemFits (source text.now tokens.now) (item_of item)) raw.now.items.items }
+    requires signals { signals.entries ≡ unit_signals (source text.now tokens.now) (raw_unit_of raw.now) }
+    ensures { IfOk result (λ unit. unit_of unit ≡ unit_for (source text.now tokens.now) (raw_unit_of raw.now)) }
+{
+    let items = raw.items.as_slice();
+    let names = names_of(alloc, text, tokens, items)?;
+    let directives = build_directives(alloc, text, tokens, &signals, items, &names)?;
+    let name = name_at(alloc, text, tokens, raw.name)?;
+    let signals = build_signals(alloc, signals)?;
+    Ok(PslUnit {
+        name,
+        signals,
+        directives: Items::from_vec(directives),
+    })
+}
+
+/// The unit that a raw tree of a text's tokens stands for, exactly where nothing refuses it. Else why it is refused: the
+/// first broken rule, and where none is broken the first directive that nests too deep, and then the first up to which
+/// there are too many nodes. `OutOfMemory` where memory was refused: then nothing is said of the unit.
+pub fn resolve(
+    alloc: Global,
+    text: &[u8],
+    tokens: &[Token],
+    raw: &RawUnit,
+) -> Result<PslUnit, UnitError>
+    requires few { length raw.now.items.items + 1 < 2 ^ 32 }
+    ensures lawful { IfOk result (λ _. refusal (source text.now tokens.now) (raw_unit_of raw.now) ≡ None) }
+    ensures unit { IfOk result (λ unit. unit_of unit ≡ unit_for (source text.now tokens.now) (raw_unit_of raw.now)) }
+    ensures refused { IfErr result (λ fault. (fault ≡ OutOfMemory)
+        ⊎ (refusal (source text.now tokens.now) (raw_unit_of raw.now) ≡ Some fault)) }
+{
+    let signals = check_unit(alloc, text, tokens, raw)?;
+    match build_unit(alloc, text, tokens, raw, signals) {
+        Ok(unit) => Ok(unit),
+        Err(_) => Err(UnitError::OutOfMemory),
+    }
+}
