@@ -1,0 +1,2 @@
+//! From the raw tree of a unit to the unit.
+#![tactic(auto)]
