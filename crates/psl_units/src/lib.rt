@@ -1,2 +1,7 @@
 //! From the raw tree of a unit to the unit.
 #![tactic(auto)]
+
+mod expressions;
+mod formulas;
+mod names;
+mod sequences;
