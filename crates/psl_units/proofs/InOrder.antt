@@ -27,7 +27,9 @@ both xs ys us vs a b =
     subst P (sym (flat_map-append site_tokens xs ys)) (joined a b)
 
 expr_part : (x : RawExpr) → Name (expr_sites x) (expr_tokens x)
-expr_part (e.name n select) = whole (n ∷ (select_tokens select ++ []))
+expr_part (e.name n None) = whole (n ∷ [])
+expr_part (e.name n (Some (high, None))) = whole (n ∷ high ∷ [])
+expr_part (e.name n (Some (high, Some low))) = whole (n ∷ high ∷ low ∷ [])
 expr_part (e.literal n) = whole (n ∷ [])
 expr_part (e.unary mark a) = left_out mark (expr_part a)
 expr_part (e.binary mark a b) =
@@ -38,19 +40,19 @@ expr_part (e.choice mark c a b) =
     (expr_part c)
     (left_out mark (both (expr_sites a) (expr_sites b) (expr_tokens a) (expr_tokens b) (expr_part a) (expr_part b)))
 
-count_part : (mark : ℕ) (low high : Option ℕ) (rest : List ℕ)
+count_part : (mark : ℕ) (low high : Option ℕ)
     → Name (count_sites mark low high) (option_tokens low ++ option_tokens high)
-count_part mark None high rest = nothing (option_tokens high)
-count_part mark (Some low) None rest = whole (low ∷ [])
-count_part mark (Some low) (Some high) rest = whole (low ∷ high ∷ [])
+count_part mark None high = nothing (option_tokens high)
+count_part mark (Some low) None = whole (low ∷ [])
+count_part mark (Some low) (Some high) = whole (low ∷ high ∷ [])
 
 sere_part : (r : s.RawSere) → Name (sere_sites r) (sere_tokens r)
 sere_part (s.bool x) = expr_part x
 sere_part (s.named n) = nothing (n ∷ [])
-sere_part (s.lone mark low high) = left_out mark (count_part mark low high [])
+sere_part (s.lone mark low high) = left_out mark (count_part mark low high)
 sere_part (s.repeat r mark low high) =
     both (sere_sites r) (count_sites mark low high) (sere_tokens r) (counts_tokens mark low high) (sere_part r)
-    (left_out mark (count_part mark low high []))
+    (left_out mark (count_part mark low high))
 sere_part (s.join mark r t) =
     both (sere_sites r) (sere_sites t) (sere_tokens r) (mark ∷ sere_tokens t) (sere_part r)
     (left_out mark (sere_part t))
@@ -66,7 +68,7 @@ count_before mark low high sites ts h =
     let P : List ℕ → Type 0 = λ us. IsPart (flat_map site_tokens (count_sites mark low high ++ sites)) us in
     subst P (append_assoc (option_tokens low) (option_tokens high) ts)
     (both (count_sites mark low high) sites (option_tokens low ++ option_tokens high) ts
-    (count_part mark low high []) h)
+    (count_part mark low high) h)
 
 prop_part : (f : p.RawProp) → Name (prop_sites f) (prop_tokens f)
 prop_part (p.bool x) = expr_part x

@@ -1,6 +1,6 @@
 //! What follows from the definition of a unit. The functions do nothing: each contract is the law.
 
-ghost use Rattle.std.specs.Prelude.{◌≡◌, ℕ, List, Some, slice_get};
+ghost use Rattle.std.specs.Prelude.{◌≡◌, ℕ, List, None, Some, slice_get};
 ghost use Rattle.psl_grammar.specs.RawUnit.{RawUnit};
 ghost use Rattle.psl_grammar.specs.Units.{IsUnit};
 ghost use Rattle.psl_lexer.specs.declared.kinds.Token.{Token};
@@ -8,7 +8,10 @@ ghost use Rattle.unit_rules.specs.declared.errors.UnitError.{UnitError};
 ghost use Rattle.unit_rules.specs.Faults.{unit_faults};
 ghost use Rattle.unit_rules.specs.Order.{AreInOrder, ComesBeforeAll};
 ghost use Rattle.unit_rules.specs.Sites.{unit_sites};
-ghost use Rattle.unit_rules.specs.Source.{source};
+ghost use Rattle.unit_rules.specs.Source.{Source, source};
+ghost use Rattle.unit_rules.specs.Limits.{refusal};
+ghost use Rattle.psl_units.specs.Unit.{unit_for};
+ghost use Rattle.psl_units.specs.Having.{HasValidExprs};
 
 use psl_grammar::laws::a_unit_names_its_tokens_in_order;
 use unit_rules::laws::the_first_broken_rule_comes_before_all;
@@ -30,3 +33,9 @@ pub fn a_units_first_broken_rule_comes_before_all()
     places_of_a_unit_are_in_order();
     the_first_broken_rule_comes_before_all();
 }
+
+/// Where nothing refuses a unit, each of its expressions is valid for its signals.
+#[tactic(auto, using(crate::proofs::ValidUnits::unit_valid))]
+pub fn expressions_of_a_unit_are_valid()
+    ensures { (s : Source) (raw : RawUnit) → refusal s raw ≡ None → HasValidExprs (unit_for s raw) }
+{}
