@@ -5,3 +5,9 @@ pub mod Directives
 pub mod Found
 pub mod ValidExprs
 pub mod ValidUnits
+pub mod Positions
+pub mod Lookups
+pub mod Fronts
+pub mod PlaceLemmas
+pub mod ScopeLemmas
+pub mod NewNames

@@ -229,9 +229,9 @@ bare_same s signals (binary mark a b) =
     (v.is_bare (expr_for s signals b))) (bare_same s signals a)
     ∙ ap (λ r. choose_bare (bare_by_both (bin_op_of (kind_at s mark))) (bare_by_left (bin_op_of (kind_at s mark)))
     (is_bare s a) r) (bare_same s signals b)
-bare_same s signals (choice mark test yes no) =
-    ap (λ l. l && v.is_bare (expr_for s signals no)) (bare_same s signals yes)
-    ∙ ap (λ r. is_bare s yes && r) (bare_same s signals no)
+bare_same s signals (choice mark test first second) =
+    ap (λ l. l && v.is_bare (expr_for s signals second)) (bare_same s signals first)
+    ∙ ap (λ r. is_bare s first && r) (bare_same s signals second)
 
 operator_valid : (s : Source) (signals : Signals) (k : Known) (mark : ℕ) (a b : RawExpr)
     → faults_at s k (operator mark a b) ≡ []
@@ -260,12 +260,12 @@ expr_valid s signals k (binary mark a b) h =
       expr_valid s signals k a (clean_front s signals k (expr_sites a) (operator mark a b ∷ expr_sites b) h),
       expr_valid s signals m b (clean_rest s signals m (operator mark a b) (expr_sites b) back),
     )
-expr_valid s signals k (choice mark test yes no) h =
-    let back = clean_back s signals k (expr_sites test) (expr_sites yes ++ expr_sites no) h in
+expr_valid s signals k (choice mark test first second) h =
+    let back = clean_back s signals k (expr_sites test) (expr_sites first ++ expr_sites second) h in
     let m : Known = known_after s k (expr_sites test) in
     (
-      expr_valid s signals k test (clean_front s signals k (expr_sites test) (expr_sites yes ++ expr_sites no) h),
-      expr_valid s signals m yes (clean_front s signals m (expr_sites yes) (expr_sites no) back),
-      expr_valid s signals (known_after s m (expr_sites yes)) no
-          (clean_back s signals m (expr_sites yes) (expr_sites no) back),
+      expr_valid s signals k test (clean_front s signals k (expr_sites test) (expr_sites first ++ expr_sites second) h),
+      expr_valid s signals m first (clean_front s signals m (expr_sites first) (expr_sites second) back),
+      expr_valid s signals (known_after s m (expr_sites first)) second
+          (clean_back s signals m (expr_sites first) (expr_sites second) back),
     )

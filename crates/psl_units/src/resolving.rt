@@ -12,6 +12,7 @@ ghost use Rattle.unit_rules.specs.Limits.{refusal};
 ghost use Rattle.unit_rules.specs.Placed.{no_bodies, placed_item, placed_items};
 ghost use Rattle.unit_rules.specs.declared.errors.UnitError.TheVariants.{OutOfMemory};
 ghost use Rattle.psl_units.specs.Unit.{report_at, directive_for, unit_for};
+ghost use Rattle.psl_units.specs.inner.Places.{plain_names};
 ghost use Rattle.psl_units.specs.inner.Scopes.{AreNames, IsScope, bodies_of};
 
 use crate::formulas::build_formula;
@@ -91,7 +92,7 @@ fn build_directives(
     names: &Names,
 ) -> Result<Vec<Directive>, AllocError>
     requires fit { All (λ item. ItemFits (source text.now tokens.now) (item_of item)) items.now }
-    requires named { AreNames (source text.now tokens.now) items.now (length items.now) names.now }
+    requires named { AreNames (source text.now tokens.now) items.now (length items.now) (plain_names names.now) }
     ensures { IfOk result (λ built. map directive_of built.items
         ≡ map (directive_for (source text.now tokens.now) signals.now.entries)
         (placed_items (source text.now tokens.now) no_bodies (map item_of items.now))) }

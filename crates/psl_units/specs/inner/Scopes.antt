@@ -83,7 +83,8 @@ sizes_before scope = sum_by (λ item. item_size (item_of item)) (take scope.upto
 -- ---- bodies that are found
 
 -- a sequence that a name stands for, with the scope in which its own names are read
-pub record IsFoundSequence (s : Source) (scope : Scope) (name : List ℕ) (inner : Scope) (r : sere.RawSere) : Type 0 where
+pub record IsFoundSequence (s : Source) (scope : Scope) (name : List ℕ) (inner : Scope) (r : sere.RawSere)
+    : Type 0 where
   pub scoped : IsScope s inner
   pub body : lookup (same_name name) (bodies_of s scope).sequences ≡ Some (placed_sere s (bodies_of s inner) r)
   pub smaller : sizes_before inner + sere.sere_size r < sizes_before scope
