@@ -58,7 +58,7 @@ fewer n name [] p = (refl, (neither (same_name n name) false p).0)
 fewer n name (m ∷ ms) p =
     let parts = neither (same_name n m) (is_among n (ms ++ name ∷ [])) p in
     let rest = fewer n name ms parts.1 in
-    (cc (parts.0, rest.0), rest.1)
+    (cc (rest.0), rest.1)
 
 -- the names of sequences and properties so far are those of all bodies
 pub record Covers (bodies : Bodies) (phrases : List (List ℕ)) : Type 0 where

@@ -141,7 +141,8 @@ select_valid s signals place w (Some (high, None)) h p =
     (h.within, omega arith, omega arith)
 select_valid s signals place w (Some (high, Some low)) h p =
     let one = neither (nat_le w 1) (nat_le w (number_at s high)) (unbroken _ _ (both_none _ _ p).0) in
-    let two = neither (nat_le w 1 || nat_le w (number_at s low)) (nat_lt (number_at s high) (number_at s low))
+    let two : (nat_le w 1 || nat_le w (number_at s low) ≡ false) × (nat_lt (number_at s high) (number_at s low) ≡ false)
+        = neither (nat_le w 1 || nat_le w (number_at s low)) (nat_lt (number_at s high) (number_at s low))
         (unbroken _ _ (both_none _ _ p).1) in
     let wide : 1 < w = not_at_most w 1 one.0 in
     let inside : number_at s high < w = not_at_most w (number_at s high) one.1 in

@@ -35,7 +35,6 @@ pub fn a_units_first_broken_rule_comes_before_all()
 }
 
 /// Where nothing refuses a unit, each of its expressions is valid for its signals.
-#[tactic(auto, using(crate::proofs::ValidUnits::unit_valid))]
 pub fn expressions_of_a_unit_are_valid()
     ensures { (s : Source) (raw : RawUnit) → refusal s raw ≡ None → HasValidExprs (unit_for s raw) }
 {}
