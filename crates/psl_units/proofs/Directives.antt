@@ -1,14 +1,21 @@
 -- The directives of a unit, item by item.
-use Rattle.std.proofs.Common.{◌≡◌, ℕ, ◌+◌, ◌<◌, suc, List, [], ◌∷◌, ◌++◌, length, map, fold, take, drop, get_or}
+use Rattle.std.proofs.Common.{◌≡◌, ℕ, ◌+◌, ◌<◌, suc, Option, List, [], ◌∷◌, ◌++◌, length, map, fold, take, drop, get_or}
 use Rattle.std.proofs.Common.{refl, ap, sym, ◌∙◌, append_assoc, add-one}
 use Rattle.std.proofs.Math.Seq.{take-suc, drop-cons, drop-length}
 use Rattle.std.proofs.lemmas.Grind.{fold-append}
 use Rattle.std.proofs.lemmas.List.{map-append, append-nil}
 use Rattle.psl_grammar.specs.declared.items.RawItem as declared
 use Rattle.psl_grammar.specs.UnitView.{item_of}
+use Rattle.psl_grammar.specs.RawProp.{RawProp}
+use Rattle.psl_grammar.specs.RawUnit.{assert}
+use Rattle.psl_model.specs.Unit.{Directive}
 use Rattle.unit_rules.specs.Source.{Source}
 use Rattle.unit_rules.specs.Placed.{Bodies, Placed, no_bodies, bodies_after, placed_item, placed_items}
+use Rattle.unit_rules.specs.Placed.{placed_prop}
 use Rattle.psl_units.specs.Before.{bodies_before}
+use Rattle.psl_units.specs.Trees.{Signals, formula_for}
+use Rattle.psl_units.specs.Unit.{directive_for}
+use Rattle.psl_units.specs.inner.Directives.{IsDirective}
 
 -- what one item more declares
 bodies_next : (s : Source) (items : List declared.RawItem) (i : ℕ) (d : declared.RawItem) → i < length items
@@ -53,3 +60,18 @@ module _ {D : Type 0} (told : Placed → D) (s : Source) (items : List declared.
       ∙ ap (λ xs. old ++ map told (placed_items s (bodies_before s items (length items)) (map item_of xs)))
       (sym (drop-length items))
       ∙ so_far
+
+-- ---- one directive
+
+made_of : (s : Source) (signals : Signals) (bodies : Bodies) (label report : Option ℕ) (body : RawProp) (d : Directive)
+    → IsDirective s label report (formula_for s signals (placed_prop s bodies body)) d
+    → d ≡ directive_for s signals (record { label = label; report = report; body = placed_prop s bodies body })
+made_of s signals bodies label report body d h =
+    λ i. record { label = h.named i; report = h.reported i; formula = h.meant i }
+
+pub put_one : (s : Source) (signals : Signals) (bodies : Bodies) (word : ℕ) (label report : Option ℕ) (body : RawProp)
+    (d : Directive) (old new : List Directive) → new ≡ old ++ d ∷ []
+    → IsDirective s label report (formula_for s signals (placed_prop s bodies body)) d
+    → new ≡ old ++ map (directive_for s signals) (placed_item s bodies (assert word label body report))
+put_one s signals bodies word label report body d old new p h =
+    p ∙ ap (λ x. old ++ x ∷ []) (made_of s signals bodies label report body d h)

@@ -1,17 +1,17 @@
 //! The call that makes a unit of its raw tree.
 
-ghost use Rattle.std.specs.Prelude.{◌≡◌, ◌⊎◌, ◌+◌, ◌<◌, ◌^◌, ◌++◌, None, Some, All, IfOk, IfErr, OnOk, length, map};
-ghost use Rattle.std.specs.Prelude.{option_map};
+ghost use Rattle.std.specs.Prelude.{◌≡◌, ◌⊎◌, ◌+◌, ◌<◌, ◌^◌, ◌++◌, ◌∷◌, [], None, Some, All, IfOk, IfErr, OnOk, length, map};
 ghost use Rattle.psl_model.specs.FormulaView.{formula_of};
 ghost use Rattle.psl_model.specs.UnitView.{directive_of, unit_of};
 ghost use Rattle.psl_grammar.specs.UnitView.{item_of, unit_of as raw_unit_of};
-ghost use Rattle.unit_rules.specs.Source.{source, bytes_at};
+ghost use Rattle.unit_rules.specs.Source.{source};
 ghost use Rattle.unit_rules.specs.Known.{unit_signals};
 ghost use Rattle.unit_rules.specs.Fitting.{ItemFits};
 ghost use Rattle.unit_rules.specs.Limits.{refusal};
 ghost use Rattle.unit_rules.specs.Placed.{no_bodies, placed_item, placed_items};
 ghost use Rattle.unit_rules.specs.declared.errors.UnitError.TheVariants.{OutOfMemory};
-ghost use Rattle.psl_units.specs.Unit.{report_at, directive_for, unit_for};
+ghost use Rattle.psl_units.specs.Unit.{directive_for, unit_for};
+ghost use Rattle.psl_units.specs.inner.Directives.{IsDirective};
 ghost use Rattle.psl_units.specs.inner.Places.{plain_names};
 ghost use Rattle.psl_units.specs.inner.Scopes.{AreNames, IsScope, bodies_of};
 
@@ -26,7 +26,7 @@ use sqlite_items::Items;
 use std::alloc::{AllocError, Global};
 use unit_rules::{UnitError, check_unit};
 
-// A directive with a formula.
+// The directive of an `assert`.
 fn build_directive(
     alloc: Global,
     text: &[u8],
@@ -35,10 +35,8 @@ fn build_directive(
     report: Option<u32>,
     formula: Formula,
 ) -> Result<Directive, AllocError>
-    ensures { IfOk result (λ d. directive_of d ≡ record {
-        label = option_map (bytes_at (source text.now tokens.now)) label;
-        report = option_map (report_at (source text.now tokens.now)) report;
-        formula = formula_of formula }) }
+    ensures { IfOk result (λ d. IsDirective (source text.now tokens.now) label report (formula_of formula)
+        (directive_of d)) }
 {
     let label = label_at(alloc, text, tokens, label)?;
     let report = report_at(alloc, text, tokens, report)?;
@@ -49,7 +47,17 @@ fn build_directive(
     })
 }
 
-// Puts the directive that an item is, if it is one, behind others.
+// Puts a directive behind others.
+fn put_last(directives: &mut Vec<Directive>, directive: Directive) -> Result<(), AllocError>
+    ensures { OnOk result (map directive_of directives.new.items
+        ≡ map directive_of directives.old.items ++ directive_of directive ∷ []) }
+{
+    directives.push(directive)?;
+    Ok(())
+}
+
+// Puts the directive of an item that is an `assert` behind others.
+#[tactic(auto, using(crate::proofs::Directives::put_one))]
 fn put_directive(
     alloc: Global,
     text: &[u8],
@@ -75,14 +83,14 @@ fn put_directive(
         } => {
             let formula = build_formula(alloc, text, tokens, signals, scope, body)?;
             let directive = build_directive(alloc, text, tokens, *label, *report, formula)?;
-            directives.push(directive)?;
-            Ok(())
+            put_last(directives, directive)
         }
         _ => Ok(()),
     }
 }
 
 // The directives of some items, in their order.
+#[tactic(auto, using(crate::proofs::Directives::told_more, crate::proofs::Directives::told_whole))]
 fn build_directives(
     alloc: Global,
     text: &[u8],
@@ -107,6 +115,7 @@ fn build_directives(
 }
 
 // The unit of a raw tree that nothing refuses.
+#[tactic(auto, using(crate::proofs::NewPhrases::unit_new))]
 fn build_unit(
     alloc: Global,
     text: &[u8],

@@ -2,5 +2,5 @@ use Rattle.std.proofs.Common.{◌≡◌, map}
 use Rattle.psl_units.specs.Unit.{signal_for}
 use Rattle.psl_units.proofs.naming.build_signals.Given as goal
 
-abbrev pub invariant-loop : goal.invariant-loop
-invariant-loop l = l.built.items ≡ map signal_for l.yielded
+abbrev pub invariant-loop-name : goal.invariant-loop-name
+invariant-loop-name l = l.built.items ≡ map signal_for l.yielded
