@@ -4,3 +4,4 @@ pub mod Fronts
 pub mod PlaceLemmas
 pub mod ScopeLemmas
 pub mod NewNames
+pub mod FoundLemmas
