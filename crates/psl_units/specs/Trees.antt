@@ -52,8 +52,8 @@ expr_for s signals (raw.name token select) = named_expr s (signal_at s signals t
 expr_for s signals (raw.literal token) = literal_expr s token
 expr_for s signals (raw.unary m a) = unary (un_op_of (kind_at s m)) (expr_for s signals a)
 expr_for s signals (raw.binary m a b) = binary (bin_op_of (kind_at s m)) (expr_for s signals a) (expr_for s signals b)
-expr_for s signals (raw.choice m test yes no) =
-    choice (expr_for s signals test) (expr_for s signals yes) (expr_for s signals no)
+expr_for s signals (raw.choice m test first second) =
+    choice (expr_for s signals test) (expr_for s signals first) (expr_for s signals second)
 
 -- ---- sequences
 
