@@ -47,6 +47,7 @@ scope_inside s scope inner place h i le =
     at_items e q =
         let P : List RawItem → Type 0 = λ xs. inner.upto ≤ length xs in
         let Q : ℕ → Type 0 = λ n. n ≤ length scope.items.now in subst P e (subst Q q le)
+
     named_in : scope.items.now ≡ inner.items.now → scope.names.now ≡ inner.names.now
         → AreNames s inner.items.now (length inner.items.now) (plain_names inner.names.now)
     named_in e q =
@@ -60,16 +61,15 @@ bodies_inside s scope inner place i =
     ap (λ n. bodies_before s scope.items.now n) (sym i.upto)
     ∙ ap (λ xs. bodies_before s xs inner.upto) (sym i.items)
 
-
 smaller_inside : (scope inner : Scope) (place size : ℕ) (item : RawItem) → Inside scope inner place
     → slice_get scope.items.now place ≡ Some item → place < scope.upto → item_size (item_of item) ≡ 1 + size
     → sizes_before inner + size < sizes_before scope
 smaller_inside scope inner place size item i at lt e =
     let f : RawItem → ℕ = λ item. item_size (item_of item) in
     let front : sum_by f (take place scope.items.now) + f item ≤ sum_by f (take scope.upto scope.items.now)
-        = sum_front f scope.items.now place scope.upto item at lt in
+    = sum_front f scope.items.now place scope.upto item at lt in
     let same : sizes_before inner ≡ sum_by f (take place scope.items.now)
-        = ap (λ xs. sum_by f (take inner.upto xs)) i.items ∙ ap (λ n. sum_by f (take n scope.items.now)) i.upto in
+    = ap (λ xs. sum_by f (take inner.upto xs)) i.items ∙ ap (λ n. sum_by f (take n scope.items.now)) i.upto in
     omega (arith, front, same, e)
 
 item_fits : (s : Source) (scope : Scope) (place : ℕ) (item : RawItem) → IsScope s scope
@@ -160,7 +160,7 @@ module _ (s : Source) (scope : Scope) (name key : List ℕ) (place : ℕ) (item 
       → body_place (lookup (same_name key) scope.names.now.sequences.entries) scope.upto ≡ Some place → ⊥
   sequence_not_missing other e =
       let P : Option RawItem → Type 0
-          = λ o. IsSome (option_map (placed_sere s (bodies_before s scope.items.now place)) (sequence_in o)) in
+      = λ o. IsSome (option_map (placed_sere s (bodies_before s scope.items.now place)) (sequence_in o)) in
       by item read (subst P (item_at (sequence_there e).2) (sequence_there e).1)
     where
       by : (x : RawItem) → x ≡ get_or scope.items.now place item
@@ -176,7 +176,7 @@ module _ (s : Source) (scope : Scope) (name key : List ℕ) (place : ℕ) (item 
       → body_place (lookup (same_name key) scope.names.now.properties.entries) scope.upto ≡ Some place → ⊥
   property_not_missing other e =
       let P : Option RawItem → Type 0
-          = λ o. IsSome (option_map (placed_prop s (bodies_before s scope.items.now place)) (property_in o)) in
+      = λ o. IsSome (option_map (placed_prop s (bodies_before s scope.items.now place)) (property_in o)) in
       by item read (subst P (item_at (property_there e).2) (property_there e).1)
     where
       by : (x : RawItem) → x ≡ get_or scope.items.now place item

@@ -174,6 +174,7 @@ names_none s items =
     none_at : (n : List ℕ) (upto : ℕ) → upto ≤ 0 → lookup (same_name n) (bodies_before s items upto).sequences ≡ None
     none_at n zero le = refl
     none_at n (suc upto) le = absurd (omega arith)
+
     none_in : (n : List ℕ) (upto : ℕ) → upto ≤ 0 → lookup (same_name n) (bodies_before s items upto).properties ≡ None
     none_in n zero le = refl
     none_in n (suc upto) le = absurd (omega arith)

@@ -3,5 +3,6 @@
 
 mod expressions;
 mod formulas;
+pub mod laws;
 mod names;
 mod sequences;
