@@ -10,7 +10,7 @@ use Rattle.unit_rules.specs.Known.{Known, same_name, is_phrase, width_of_signal,
 use Rattle.unit_rules.specs.Faults.{faults_at, select_faults, where_broken, too_many}
 use Rattle.unit_rules.specs.declared.errors.UnitError.TheVariants.{DuplicateName}
 use Rattle.psl_units.specs.Trees.{Signals}
-use Rattle.psl_units.proofs.NewPhrases.{both_none, unbroken}
+use Rattle.psl_units.proofs.NoFaults.{both_none, unbroken}
 
 abbrev pub widths_of : Signals → List ℕ
 widths_of signals = map (λ e. e.1) signals

@@ -51,7 +51,7 @@ among_front : (n x : List ℕ) (names : List (List ℕ)) → is_among n (names +
 among_front n x [] p = (refl, (neither (same_name n x) false p).0)
 among_front n x (y ∷ ys) p =
     let parts : (same_name n y ≡ false) × (is_among n (ys ++ x ∷ []) ≡ false)
-        = neither (same_name n y) (is_among n (ys ++ x ∷ [])) p in
+    = neither (same_name n y) (is_among n (ys ++ x ∷ [])) p in
     let rest : (is_among n ys ≡ false) × (same_name n x ≡ false) = among_front n x ys parts.1 in
     (ap (λ b. b || is_among n ys) parts.0 ∙ rest.0, rest.1)
 
@@ -172,12 +172,13 @@ new_items s k b [] h p = tt
 new_items s k b (item ∷ items) h p =
     let rest : List Site = flat_map item_sites items in
     let parts : (faults_in s k (item_sites item) ≡ [])
-        × (faults_in s (known_after s k (item_sites item)) rest ≡ [])
-        = none_left (faults_in s k (item_sites item)) (faults_in s (known_after s k (item_sites item)) rest)
-        (sym (faults_joined s k (item_sites item) rest) ∙ p) in
-    (new_item s k b item h parts.0,
-    new_items s (known_after s k (item_sites item)) (bodies_after s b item) items
-    (covers_item s k b item h parts.0) parts.1)
+    × (faults_in s (known_after s k (item_sites item)) rest ≡ [])
+    = none_left (faults_in s k (item_sites item)) (faults_in s (known_after s k (item_sites item)) rest)
+    (sym (faults_joined s k (item_sites item) rest) ∙ p) in (
+      new_item s k b item h parts.0,
+      new_items s (known_after s k (item_sites item)) (bodies_after s b item) items
+          (covers_item s k b item h parts.0) parts.1,
+    )
 
 no_refusal : (a b : Option UnitError) → or_else a b ≡ None → a ≡ None
 no_refusal None b p = refl

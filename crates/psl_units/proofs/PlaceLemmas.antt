@@ -46,7 +46,7 @@ same_place count stands worth p e h =
 -- ---- where it is new
 
 some_not_none : {T : Type 0} (o : Option T) → IsSome o → o ≡ None → ⊥
-some_not_none None h e = h
+some_not_none None h e = cc h
 some_not_none (Some x) h e = cc e
 
 -- a name that stands for nothing stood for nothing before
@@ -66,7 +66,7 @@ new_place count root stands worth old v h none e w le =
       body = λ upto up. by upto (last upto count up);
       before = omega arith;
       earlier = le;
-      declares = let P : Option _ → Type 0 = IsSome in subst P (sym w) tt;
+      declares = let P : Option _ → Type 0 = IsSome in subst P (sym w) refl;
     }
   where
     by : (upto : ℕ) → (upto ≤ count) ⊎ (upto ≡ suc count)
@@ -90,7 +90,7 @@ root_worth k stands worth (Some p) d h w =
     by : (b : Bool) → stands k ≡ at_place worth (cond b (Some p.body) None) → (o : Option _) → worth p.body ≡ o
         → IsSome o → worth (unwrap_or (cond b (Some p.body) None) k) ≡ Some (unwrap_or (stands k) d)
     by false e o q some = w
-    by true e None q some = absurd some
+    by true e None q some = absurd (cc some)
     by true e (Some x) q some = q ∙ ap (λ o. Some (unwrap_or o d)) (sym (e ∙ q))
 
 pub root_within : (k : ℕ) (p : Option Place) → IfSome p (λ p. p.item < k) → IfSome p (λ p. p.body ≤ p.item)

@@ -1,8 +1,8 @@
 -- The names of items, as the items come one after the other, and the bodies that are found by them.
-use Rattle.std.proofs.Common.{◌≡◌, ℕ, suc, ◌+◌, ◌<◌, ◌≤◌, Bool, true, false, cond, Option, None, Some, IsSome, List, All}
-use Rattle.std.proofs.Common.{length, take, refl, ap, sym, ◌∙◌, subst, arith, le_refl}
+use Rattle.std.proofs.Common.{◌≡◌, ℕ, zero, suc, ◌+◌, ◌<◌, ◌≤◌, Bool, true, false, cond, Option, None, Some, IsSome, List, All}
+use Rattle.std.proofs.Common.{[], ◌∷◌, length, map, take, refl, ap, sym, ◌∙◌, subst, arith, le_refl}
 use Rattle.std.proofs.lemmas.Option.{same_Some, slice_get_within}
-use Rattle.std.specs.List.{slice_get, sum_by}
+use Rattle.std.specs.List.{slice_get, fold}
 use Rattle.std.specs.Option.{unwrap_or, option_map}
 use Rattle.std.specs.Map.{lookup}
 use Rattle.indexmap.specs.IndexMap.{insert_entry}
@@ -15,7 +15,7 @@ use Rattle.unit_rules.specs.Source.{Source, bytes_at}
 use Rattle.unit_rules.specs.Known.{same_name}
 use Rattle.unit_rules.specs.Placed.{Bodies, no_bodies, bodies_after, placed_sere, placed_prop}
 use Rattle.psl_units.specs.declared.names.Place.{Place}
-use Rattle.psl_units.specs.Before.{bodies_before, IsNew}
+use Rattle.psl_units.specs.Before.{bodies_before, IsNew, AreNew}
 use Rattle.psl_units.specs.inner.Places.{IsPlace, Places, PlainNames, no_names, place_of, body_place, with_place}
 use Rattle.psl_units.specs.inner.Places.{sequence_place, property_place, names_after}
 use Rattle.psl_units.specs.inner.Scopes.{sequence_of, property_of, sequence_in, property_in, sequence_at, property_at}
@@ -174,6 +174,23 @@ names_none s items =
     none_at : (n : List ℕ) (upto : ℕ) → upto ≤ 0 → lookup (same_name n) (bodies_before s items upto).sequences ≡ None
     none_at n zero le = refl
     none_at n (suc upto) le = absurd (omega arith)
+
     none_in : (n : List ℕ) (upto : ℕ) → upto ≤ 0 → lookup (same_name n) (bodies_before s items upto).properties ≡ None
     none_in n zero le = refl
     none_in n (suc upto) le = absurd (omega arith)
+
+-- an item of a unit that declares no name again
+new_at : (s : Source) (b : Bodies) (items : List RawItem) (k : ℕ) (item : RawItem) → AreNew s b (map item_of items)
+    → slice_get items k ≡ Some item
+    → IsNew s (fold (λ bodies item. bodies_after s bodies (item_of item)) b (take k items)) (item_of item)
+new_at s b [] k item new at = absurd (cc at)
+new_at s b (x ∷ xs) zero item new at =
+    let P : RawItem → Type 0 = λ y. IsNew s b (item_of y) in subst P (same_Some x item at) new.0
+new_at s b (x ∷ xs) (suc k) item new at = new_at s (bodies_after s b (item_of x)) xs k item new.1 at
+
+pub names_step : (s : Source) (items : List RawItem) (k : ℕ) (item : RawItem) (names : PlainNames)
+    → AreNew s no_bodies (map item_of items) → slice_get items k ≡ Some item → AreNames s items k names
+    → AreNames s items (k + 1) (names_after s names k (item_of item))
+names_step s items k item names new at h =
+    let P : ℕ → Type 0 = λ n. AreNames s items n (names_after s names k (item_of item)) in
+    subst P (omega arith) (names_next s items k item names at (new_at s no_bodies items k item new at) h)

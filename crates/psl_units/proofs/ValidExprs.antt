@@ -23,7 +23,7 @@ use Rattle.unit_rules.specs.Known.{Known, same_name, has_meaning, with_signal, w
 use Rattle.unit_rules.specs.Known.{width_of_signal, after_site, known_after}
 use Rattle.unit_rules.specs.Faults.{where_broken, faults_at, faults_in, is_bare, is_lawful_literal, select_faults}
 use Rattle.psl_units.specs.Trees.{Signals, signal_at, true_expr, false_expr, named_expr, literal_expr, expr_for}
-use Rattle.psl_units.proofs.NewPhrases.{both_none, unbroken, neither, joined_faults}
+use Rattle.psl_units.proofs.NoFaults.{both_none, unbroken, neither, joined_faults}
 use Rattle.psl_units.proofs.Found.{widths_of, StandsAt, found_stands, stays_found, IsUse, is_use}
 
 -- ---- signals only grow

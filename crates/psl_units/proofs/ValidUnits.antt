@@ -1,6 +1,6 @@
 -- Where nothing refuses a unit, its expressions are valid.
-use Rattle.std.proofs.Common.{◌≡◌, ℕ, zero, suc, Bool, true, false, cond, Option, None, Some, unwrap_or, option_map, List}
-use Rattle.std.proofs.Common.{[], ◌∷◌, ◌++◌, All, map, refl, ap, sym, ◌∙◌, subst, arith}
+use Rattle.std.proofs.Common.{◌≡◌, ℕ, Bool, true, false, cond, Option, None, Some, unwrap_or, option_map, List}
+use Rattle.std.proofs.Common.{[], ◌∷◌, ◌++◌, All, map, refl, ap, sym, subst}
 use Rattle.std.proofs.lemmas.List.{append-nil}
 use Rattle.std.proofs.lemmas.List.Elements.{All-nil, All-cons}
 use Rattle.std.specs.List.{flat_map}
@@ -31,7 +31,7 @@ use Rattle.psl_units.specs.Trees.{Signals, expr_for, low_count, high_count, repe
 use Rattle.psl_units.specs.Trees.{combined, next_for, first_cycle, last_cycle, formula_for}
 use Rattle.psl_units.specs.Unit.{signal_for, directive_for, unit_for}
 use Rattle.psl_units.specs.Having.{SereHas, FormulaHas, unit_widths, HasValidExprs}
-use Rattle.psl_units.proofs.NewPhrases.{no_faults}
+use Rattle.psl_units.proofs.NoFaults.{no_faults}
 use Rattle.psl_units.proofs.Found.{widths_of}
 use Rattle.psl_units.proofs.ValidExprs.{Grown, Clean, clean_front, clean_back, clean_site, clean_rest, expr_valid}
 use Rattle.psl_units.proofs.ValidExprs.{true_valid, false_valid}

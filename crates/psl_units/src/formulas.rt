@@ -102,12 +102,7 @@ fn combined_by(kind: Kind, left: Subformula, right: Subformula) -> Formula
     }
 }
 
-fn combined(
-    alloc: Global,
-    kind: Kind,
-    left: Formula,
-    right: Formula,
-) -> Result<Formula, AllocError>
+fn combined(alloc: Global, kind: Kind, left: Formula, right: Formula) -> Result<Formula, AllocError>
     ensures { IfOk result (λ f. formula_of f ≡ combined kind (formula_of left) (formula_of right)) }
 {
     let left = Subformula::new(alloc, left)?;
@@ -218,7 +213,13 @@ pub fn build_formula(
             let body = build_formula(alloc, text, tokens, signals, scope, body.get())?;
             prefixed(alloc, kind_at(tokens, *word), body)
         }
-        RawProp::Next { word, on, low, high, body } => {
+        RawProp::Next {
+            word,
+            on,
+            low,
+            high,
+            body,
+        } => {
             let range = (*low, *high);
             build_next(alloc, text, tokens, signals, scope, *word, on, range, body)
         }

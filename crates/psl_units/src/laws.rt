@@ -10,6 +10,8 @@ ghost use Rattle.unit_rules.specs.Order.{AreInOrder, ComesBeforeAll};
 ghost use Rattle.unit_rules.specs.Sites.{unit_sites};
 ghost use Rattle.unit_rules.specs.Source.{Source, source};
 ghost use Rattle.unit_rules.specs.Limits.{refusal};
+ghost use Rattle.unit_rules.specs.Placed.{no_bodies};
+ghost use Rattle.psl_units.specs.Before.{AreNew};
 ghost use Rattle.psl_units.specs.Unit.{unit_for};
 ghost use Rattle.psl_units.specs.Having.{HasValidExprs};
 
@@ -37,4 +39,10 @@ pub fn a_units_first_broken_rule_comes_before_all()
 /// Where nothing refuses a unit, each of its expressions is valid for its signals.
 pub fn expressions_of_a_unit_are_valid()
     ensures { (s : Source) (raw : RawUnit) → refusal s raw ≡ None → HasValidExprs (unit_for s raw) }
+{}
+
+/// A unit that isn't refused declares no name of a sequence or property twice.
+#[tactic(auto, using(crate::proofs::NewNames::unit_new))]
+pub fn a_lawful_unit_declares_no_name_twice()
+    ensures { (s : Source) (raw : RawUnit) → refusal s raw ≡ None → AreNew s no_bodies raw.items }
 {}

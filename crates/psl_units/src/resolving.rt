@@ -1,6 +1,7 @@
 //! The call that makes a unit of its raw tree.
 
-ghost use Rattle.std.specs.Prelude.{◌≡◌, ◌⊎◌, ◌+◌, ◌<◌, ◌^◌, ◌++◌, ◌∷◌, [], None, Some, All, IfOk, IfErr, OnOk, length, map};
+ghost use Rattle.std.specs.Prelude.{◌≡◌, ◌⊎◌, ◌+◌, ◌<◌, ◌^◌, ◌++◌, ◌∷◌, [], None, Some, All, IfOk, IfErr, OnOk, map};
+ghost use Rattle.std.specs.Prelude.{length};
 ghost use Rattle.psl_model.specs.FormulaView.{formula_of};
 ghost use Rattle.psl_model.specs.UnitView.{directive_of, unit_of};
 ghost use Rattle.psl_grammar.specs.UnitView.{item_of, unit_of as raw_unit_of};
@@ -16,6 +17,7 @@ ghost use Rattle.psl_units.specs.inner.Places.{plain_names};
 ghost use Rattle.psl_units.specs.inner.Scopes.{AreNames, IsScope, bodies_of};
 
 use crate::formulas::build_formula;
+use crate::laws::a_lawful_unit_declares_no_name_twice;
 use crate::names::{Names, Scope, names_of};
 use crate::naming::{build_signals, label_at, name_at, report_at};
 use indexmap::IndexMap;
@@ -115,7 +117,6 @@ fn build_directives(
 }
 
 // The unit of a raw tree that nothing refuses.
-#[tactic(auto, using(crate::proofs::NewPhrases::unit_new))]
 fn build_unit(
     alloc: Global,
     text: &[u8],
@@ -128,6 +129,7 @@ fn build_unit(
     requires signals { signals.entries ≡ unit_signals (source text.now tokens.now) (raw_unit_of raw.now) }
     ensures { IfOk result (λ unit. unit_of unit ≡ unit_for (source text.now tokens.now) (raw_unit_of raw.now)) }
 {
+    a_lawful_unit_declares_no_name_twice();
     let items = raw.items.as_slice();
     let names = names_of(alloc, text, tokens, items)?;
     let directives = build_directives(alloc, text, tokens, &signals, items, &names)?;
@@ -151,7 +153,8 @@ pub fn resolve(
 ) -> Result<PslUnit, UnitError>
     requires few { length raw.now.items.items + 1 < 2 ^ 32 }
     ensures lawful { IfOk result (λ _. refusal (source text.now tokens.now) (raw_unit_of raw.now) ≡ None) }
-    ensures unit { IfOk result (λ unit. unit_of unit ≡ unit_for (source text.now tokens.now) (raw_unit_of raw.now)) }
+    ensures unit { IfOk result (λ unit.
+        unit_of unit ≡ unit_for (source text.now tokens.now) (raw_unit_of raw.now)) }
     ensures refused { IfErr result (λ fault. (fault ≡ OutOfMemory)
         ⊎ (refusal (source text.now tokens.now) (raw_unit_of raw.now) ≡ Some fault)) }
 {

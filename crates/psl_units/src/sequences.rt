@@ -37,13 +37,7 @@ fn default_high(kind: Kind) -> Option<u32>
 }
 
 // The lower end of a repetition.
-fn low_count(
-    text: &[u8],
-    tokens: &[Token],
-    mark: u32,
-    low: Option<u32>,
-    high: Option<u32>,
-) -> u32
+fn low_count(text: &[u8], tokens: &[Token], mark: u32, low: Option<u32>, high: Option<u32>) -> u32
     requires { AreSmallCounts (source text.now tokens.now) low high }
     ensures { result ≡ low_count (source text.now tokens.now) mark low }
 {
