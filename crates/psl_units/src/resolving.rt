@@ -2,15 +2,16 @@
 
 ghost use Rattle.std.specs.Prelude.{◌≡◌, ◌⊎◌, ◌+◌, ◌<◌, ◌^◌, ◌++◌, ◌∷◌, [], None, Some, All, IfOk, IfErr, OnOk, map};
 ghost use Rattle.std.specs.Prelude.{length};
-ghost use Rattle.psl_model.specs.FormulaView.{formula_of};
 ghost use Rattle.psl_model.specs.UnitView.{directive_of, unit_of};
+ghost use Rattle.psl_grammar.specs.View.{prop_of};
 ghost use Rattle.psl_grammar.specs.UnitView.{item_of, unit_of as raw_unit_of};
 ghost use Rattle.unit_rules.specs.Source.{source};
 ghost use Rattle.unit_rules.specs.Known.{unit_signals};
-ghost use Rattle.unit_rules.specs.Fitting.{ItemFits};
+ghost use Rattle.unit_rules.specs.Fitting.{ItemFits, PropFits};
 ghost use Rattle.unit_rules.specs.Limits.{refusal};
-ghost use Rattle.unit_rules.specs.Placed.{no_bodies, placed_item, placed_items};
+ghost use Rattle.unit_rules.specs.Placed.{no_bodies, placed_prop, placed_item, placed_items};
 ghost use Rattle.unit_rules.specs.declared.errors.UnitError.TheVariants.{OutOfMemory};
+ghost use Rattle.psl_units.specs.Trees.{formula_for};
 ghost use Rattle.psl_units.specs.Unit.{directive_for, unit_for};
 ghost use Rattle.psl_units.specs.inner.Directives.{IsDirective};
 ghost use Rattle.psl_units.specs.inner.Places.{plain_names};
@@ -21,9 +22,9 @@ use crate::laws::a_lawful_unit_declares_no_name_twice;
 use crate::names::{Names, Scope, names_of};
 use crate::naming::{build_signals, label_at, name_at, report_at};
 use indexmap::IndexMap;
-use psl_grammar::{RawItem, RawUnit};
+use psl_grammar::{RawItem, RawProp, RawUnit};
 use psl_lexer::Token;
-use psl_model::{Directive, Formula, Name, PslUnit};
+use psl_model::{Directive, Name, PslUnit};
 use sqlite_items::Items;
 use std::alloc::{AllocError, Global};
 use unit_rules::{UnitError, check_unit};
@@ -33,15 +34,22 @@ fn build_directive(
     alloc: Global,
     text: &[u8],
     tokens: &[Token],
+    signals: &IndexMap<Name, u32>,
+    scope: &Scope,
     label: Option<u32>,
+    body: &RawProp,
     report: Option<u32>,
-    formula: Formula,
 ) -> Result<Directive, AllocError>
-    ensures { IfOk result (λ d. IsDirective (source text.now tokens.now) label report (formula_of formula)
-        (directive_of d)) }
+    requires scoped { IsScope (source text.now tokens.now) scope.now }
+    requires fits { PropFits (source text.now tokens.now) (prop_of body.now) }
+    ensures { IfOk result (λ d. IsDirective (source text.now tokens.now) label report
+        (formula_for (source text.now tokens.now) signals.now.entries
+        (placed_prop (source text.now tokens.now) (bodies_of (source text.now tokens.now) scope.now)
+        (prop_of body.now))) (directive_of d)) }
 {
     let label = label_at(alloc, text, tokens, label)?;
     let report = report_at(alloc, text, tokens, report)?;
+    let formula = build_formula(alloc, text, tokens, signals, scope, body)?;
     Ok(Directive {
         label,
         report,
@@ -83,8 +91,8 @@ fn put_directive(
             report,
             ..
         } => {
-            let formula = build_formula(alloc, text, tokens, signals, scope, body)?;
-            let directive = build_directive(alloc, text, tokens, *label, *report, formula)?;
+            let directive =
+                build_directive(alloc, text, tokens, signals, scope, *label, body, *report)?;
             put_last(directives, directive)
         }
         _ => Ok(()),
