@@ -12,7 +12,8 @@ loop-place-preserved c =
     = λ names. AreNames (source c.args.text.now c.args.tokens.now) c.args.items.now
     (c.loop-place.place + 1) names in
     subst P (sym c.in_ok-take_in.ensures)
-    (names_step (source c.args.text.now c.args.tokens.now) c.args.items.now c.loop-place.place c.index-items-place.result
+    (names_step (source c.args.text.now c.args.tokens.now) c.args.items.now c.loop-place.place
+    c.index-items-place.result
     (plain_names c.loop-place.names) c.requires
     (slice_get_read c.args.items.now (length c.args.items.now) c.loop-place.place c.index-items-place.result refl
     c.loop-place-test.true c.index-items-place.is)
