@@ -85,7 +85,7 @@ pub is_use : (s : Source) (k : Known) (token : ℕ) (select : Option (ℕ × Opt
 is_use s k token select p =
     let name : List ℕ = bytes_at s token in
     let outer = both_none (where_broken (is_phrase k name) (DuplicateName token) ++ too_many s k token)
-        (select_faults s (width_of_signal k name) select) p in
+    (select_faults s (width_of_signal k name) select) p in
     let inner = both_none (where_broken (is_phrase k name) (DuplicateName token)) (too_many s k token) outer.0 in
     record {
       found = signal_found k name (unbroken (is_phrase k name) (DuplicateName token) inner.0);

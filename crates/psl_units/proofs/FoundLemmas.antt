@@ -39,7 +39,8 @@ scope_inside : (s : Source) (scope inner : Scope) (place : ℕ) → IsScope s sc
 scope_inside s scope inner place h i le =
     record {
       within = at_items (sym i.items) (sym i.upto);
-      fit = let P : List RawItem → Type 0 = λ xs. All (λ item. ItemFits s (item_of item)) xs in subst P (sym i.items) h.fit;
+      fit = let P : List RawItem → Type 0 = λ xs. All (λ item. ItemFits s (item_of item)) xs in
+          subst P (sym i.items) h.fit;
       named = named_in (sym i.items) (sym i.names);
     }
   where

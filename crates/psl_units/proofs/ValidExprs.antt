@@ -142,8 +142,8 @@ select_valid s signals place w (Some (high, None)) h p =
 select_valid s signals place w (Some (high, Some low)) h p =
     let one = neither (nat_le w 1) (nat_le w (number_at s high)) (unbroken _ _ (both_none _ _ p).0) in
     let two : (nat_le w 1 || nat_le w (number_at s low) ≡ false) × (nat_lt (number_at s high) (number_at s low) ≡ false)
-        = neither (nat_le w 1 || nat_le w (number_at s low)) (nat_lt (number_at s high) (number_at s low))
-        (unbroken _ _ (both_none _ _ p).1) in
+    = neither (nat_le w 1 || nat_le w (number_at s low)) (nat_lt (number_at s high) (number_at s low))
+    (unbroken _ _ (both_none _ _ p).1) in
     let wide : 1 < w = not_at_most w 1 one.0 in
     let inside : number_at s high < w = not_at_most w (number_at s high) one.1 in
     let bits : slice_index (widths_of signals) place ≡ w = h.bits in
@@ -157,7 +157,7 @@ name_valid s signals k token select h =
     let test : List ℕ → Bool = same_name (bytes_at s token) in
     let w : ℕ = width_of_signal k (bytes_at s token) in
     let found : lookup test ((with_signal k (bytes_at s token) 1).signals ++ h.grown.more) ≡ Some w =
-        stays_found test (with_signal k (bytes_at s token) 1).signals h.grown.more w use_here.found in
+    stays_found test (with_signal k (bytes_at s token) 1).signals h.grown.more w use_here.found in
     select_valid s signals (signal_at s signals token) w select
     (found_stands test signals w (ap (λ xs. lookup test xs) h.grown.listed ∙ found)) use_here.none
 
@@ -167,11 +167,10 @@ sized_valid : (widths : List ℕ) (bytes : List ℕ) → is_lawful_sized bytes �
     → IsValid widths (e.sized (sized_width bytes) (sized_value bytes))
 sized_valid widths bytes p =
     let halves = both (nat_le 1 (sized_width bytes) && nat_le (sized_width bytes) vector_limit)
-        (are_digits (sized_base bytes) (sized_digits bytes) && nat_lt (sized_value bytes) (2 ^ sized_width bytes)) p in
+    (are_digits (sized_base bytes) (sized_digits bytes) && nat_lt (sized_value bytes) (2 ^ sized_width bytes)) p in
     let ends = both (nat_le 1 (sized_width bytes)) (nat_le (sized_width bytes) vector_limit) halves.0 in
     let value = both (are_digits (sized_base bytes) (sized_digits bytes))
-        (nat_lt (sized_value bytes) (2 ^ sized_width bytes)) halves.1 in
-    (
+    (nat_lt (sized_value bytes) (2 ^ sized_width bytes)) halves.1 in (
       at_most_true 1 (sized_width bytes) ends.0,
       at_most_true (sized_width bytes) vector_limit ends.1,
       below_true (sized_value bytes) (2 ^ sized_width bytes) value.1,
@@ -255,16 +254,14 @@ expr_valid s signals k (literal token) h =
 expr_valid s signals k (unary mark a) h = expr_valid s signals k a h
 expr_valid s signals k (binary mark a b) h =
     let back = clean_back s signals k (expr_sites a) (operator mark a b ∷ expr_sites b) h in
-    let m : Known = known_after s k (expr_sites a) in
-    (
+    let m : Known = known_after s k (expr_sites a) in (
       operator_valid s signals m mark a b (clean_site s signals m (operator mark a b) (expr_sites b) back),
       expr_valid s signals k a (clean_front s signals k (expr_sites a) (operator mark a b ∷ expr_sites b) h),
       expr_valid s signals m b (clean_rest s signals m (operator mark a b) (expr_sites b) back),
     )
 expr_valid s signals k (choice mark test first second) h =
     let back = clean_back s signals k (expr_sites test) (expr_sites first ++ expr_sites second) h in
-    let m : Known = known_after s k (expr_sites test) in
-    (
+    let m : Known = known_after s k (expr_sites test) in (
       expr_valid s signals k test (clean_front s signals k (expr_sites test) (expr_sites first ++ expr_sites second) h),
       expr_valid s signals m first (clean_front s signals m (expr_sites first) (expr_sites second) back),
       expr_valid s signals (known_after s m (expr_sites first)) second

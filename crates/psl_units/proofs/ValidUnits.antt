@@ -209,8 +209,7 @@ module _ (s : Source) (signals : Signals) where
   item_fine bodies k (property token f) b h = tt
   item_fine bodies k (assert word tag f report) b h =
       let m : Known = known_after s k (label_sites tag) in
-      let back = clean_back s signals k (label_sites tag) (directive word ∷ prop_sites f) h in
-      (
+      let back = clean_back s signals k (label_sites tag) (directive word ∷ prop_sites f) h in (
         prop_fine bodies (after_site s m (directive word)) f b
             (clean_rest s signals m (directive word) (prop_sites f) back),
         tt,
@@ -248,7 +247,7 @@ unit_valid s raw p =
       grown = record { more = []; listed = sym (append-nil signals) };
     } in
     let fine : AllFine s signals (placed_unit s raw) =
-        items_fine s signals no_bodies nothing raw.items (record { sequences = tt; properties = tt }) clean in
+    items_fine s signals no_bodies nothing raw.items (record { sequences = tt; properties = tt }) clean in
     let P : List ℕ → Type 0 = λ ws. All (λ (d : Directive). FormulaHas (IsValid ws) d.formula)
-        (map (directive_for s signals) (placed_unit s raw)) in
+    (map (directive_for s signals) (placed_unit s raw)) in
     subst P (same_widths signals) (directives_fine s signals (placed_unit s raw) fine)

@@ -12,12 +12,7 @@ use std::alloc::{AllocError, Global};
 use unit_rules::source::bytes_at;
 
 /// The bytes of a token, as a name.
-pub fn name_at(
-    alloc: Global,
-    text: &[u8],
-    tokens: &[Token],
-    token: u32,
-) -> Result<Name, AllocError>
+pub fn name_at(alloc: Global, text: &[u8], tokens: &[Token], token: u32) -> Result<Name, AllocError>
     ensures { IfOk result (λ name. name ≡ bytes_at (source text.now tokens.now) token) }
 {
     Name::new(alloc, bytes_at(text, tokens, token))

@@ -91,8 +91,9 @@ fn put_directive(
             report,
             ..
         } => {
-            let directive =
-                build_directive(alloc, text, tokens, signals, scope, *label, body, *report)?;
+            let directive = build_directive(
+                alloc, text, tokens, signals, scope, *label, body, *report,
+            )?;
             put_last(directives, directive)
         }
         _ => Ok(()),
@@ -150,9 +151,9 @@ fn build_unit(
     })
 }
 
-/// The unit that a raw tree of a text's tokens stands for, exactly where nothing refuses it. Else why it is refused: the
-/// first broken rule, and where none is broken the first directive that nests too deep, and then the first up to which
-/// there are too many nodes. `OutOfMemory` where memory was refused: then nothing is said of the unit.
+/// The unit that a raw tree of a text's tokens stands for, exactly where nothing refuses it. Else why it is refused:
+/// the first broken rule, and where none is broken the first directive that nests too deep, and then the first up to
+/// which there are too many nodes. `OutOfMemory` where memory was refused: then nothing is said of the unit.
 pub fn resolve(
     alloc: Global,
     text: &[u8],

@@ -21,9 +21,15 @@ const NAMES: [Row; 16] = [
     (b"wire a; wire @a;", b"wire a; wire b;"),
     (b"wire a, @a;", b"wire a, b;"),
     (b"assert a; wire @a;", b"wire a; assert a;"),
-    (b"wire a; sequence @a = {b};", b"sequence a = {b}; assert a;"),
+    (
+        b"wire a; sequence @a = {b};",
+        b"sequence a = {b}; assert a;",
+    ),
     (b"wire a; property @a = b;", b"property a = b; assert a;"),
-    (b"assert a; sequence @a = {b};", b"assert b; sequence a = {b};"),
+    (
+        b"assert a; sequence @a = {b};",
+        b"assert b; sequence a = {b};",
+    ),
     (b"assert a; property @a = b;", b"assert b; property a = b;"),
     (b"sequence s = {a}; wire @s;", b"sequence s = {a}; wire t;"),
     (b"property p = a; wire @p;", b"property p = a; wire q;"),
@@ -111,11 +117,20 @@ fn a_literal_fits_its_width(rt: HostRuntime) {
 }
 
 const SELECTS: [Row; 6] = [
-    (b"wire [7:0] d; assert d[@8];", b"wire [7:0] d; assert d[7];"),
+    (
+        b"wire [7:0] d; assert d[@8];",
+        b"wire [7:0] d; assert d[7];",
+    ),
     (b"wire d; assert d[@0];", b"wire [1:0] d; assert d[0];"),
     (b"assert d[@0];", b"assert d;"),
-    (b"wire [7:0] d; assert d[3:@4];", b"wire [7:0] d; assert d[4:4];"),
-    (b"wire [7:0] d; assert d[@8:0];", b"wire [7:0] d; assert d[7:0];"),
+    (
+        b"wire [7:0] d; assert d[3:@4];",
+        b"wire [7:0] d; assert d[4:4];",
+    ),
+    (
+        b"wire [7:0] d; assert d[@8:0];",
+        b"wire [7:0] d; assert d[7:0];",
+    ),
     (
         b"wire [7:0] d; sequence s = {d[@9]};",
         b"wire [9:0] d; sequence s = {d[9]};",

@@ -5,7 +5,8 @@ use crate::making::answer_to_items;
 use psl_model::{Directive, Formula, Name, PslUnit};
 use std::alloc::Global;
 
-const WHOLE: &[u8] = b"vunit bus (m) { default clock = posedge k; wire [7:0] d; sequence s = {x;d[0]};
+const WHOLE: &[u8] =
+    b"vunit bus (m) { default clock = posedge k; wire [7:0] d; sequence s = {x;d[0]};
     L: assert always (d == x) report \"bad x\"; property p = never s; assert p; M: assert y report \"\"; }";
 
 fn is_signal(unit: &PslUnit, place: usize, name: &[u8], width: u32) -> bool {
@@ -84,7 +85,10 @@ fn count_of(alloc: Global, text: &[u8]) -> Option<usize> {
 #[test]
 fn a_unit_may_have_nothing(rt: HostRuntime) {
     assert_eq!(rt; count_of(rt.alloc(), b"vunit u { }"), Some(0));
-    assert_eq!(rt; count_of(rt.alloc(), b"vunit u { sequence s = {a}; }"), Some(0));
+    assert_eq!(rt;
+        count_of(rt.alloc(), b"vunit u { sequence s = {a}; }"),
+        Some(0)
+    );
 }
 
 #[test]

@@ -9,4 +9,5 @@ pub returns-in-None : goal.returns-in-None
 returns-in-None c =
     c.len.ensures.len
     ∙ (sym (length-keys_of c.args.signals.now.entries)
-    ∙ position_none (same_name c.args.name.now) (keys_of c.args.signals.now.entries) (sym c.find_signal.ensures ∙ c.in-None.is))
+    ∙ position_none (same_name c.args.name.now) (keys_of c.args.signals.now.entries)
+    (sym c.find_signal.ensures ∙ c.in-None.is))
