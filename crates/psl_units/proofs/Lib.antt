@@ -1,0 +1,14 @@
+pub mod Positions
+pub mod Lookups
+pub mod Fronts
+pub mod PlaceLemmas
+pub mod ScopeLemmas
+pub mod NewNames
+pub mod FoundLemmas
+pub mod Directives
+pub mod Parts
+pub mod InOrder
+pub mod NoFaults
+pub mod Found
+pub mod ValidExprs
+pub mod ValidUnits

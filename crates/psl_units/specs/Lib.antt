@@ -1,0 +1,6 @@
+pub mod Trees
+pub mod Before
+pub mod Unit
+pub mod StandsForUnit
+pub mod Having
+pub mod inner

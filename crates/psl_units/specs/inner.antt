@@ -1,0 +1,4 @@
+-- Definitions that only private contracts cite.
+pub mod Places
+pub mod Scopes
+pub mod Directives
