@@ -10,3 +10,4 @@ mod resolving;
 mod sequences;
 
 pub use resolving::resolve;
+pub use unit_rules::UnitError;
