@@ -3,7 +3,7 @@
 ghost use Rattle.std.specs.Prelude.{◌≡◌, ◌+◌, ◌^◌, ◌<◌, ◌≤◌, ◌↔◌, IsTrue, length, count_by};
 ghost use Rattle.psl_grammar.specs.Symbols.{symbol_at};
 ghost use Rattle.psl_parser.specs.Depth.{may_open, may_begin, begins_item, braces_behind, behind, behind_all};
-ghost use Rattle.psl_parser.specs.Depth.{IsItemFull, MayBeTooDeep};
+ghost use Rattle.psl_parser.specs.Depth.{IsItemFull, is_wire, IsOneTooMany, MayBeTooDeep};
 
 use psl_grammar::Symbol;
 
@@ -11,7 +11,7 @@ use psl_grammar::Symbol;
 const OPENERS: usize = 65;
 
 /// How many tokens an item other than `wire` may have.
-const ITEM_TOKENS: usize = 2048;
+const ITEM_TOKENS: u32 = 2048;
 
 fn may_open(symbol: Symbol) -> bool
     ensures { result ≡ may_open symbol }
@@ -136,7 +136,33 @@ fn is_item_full(symbols: &[Symbol]) -> bool
     ensures { IsTrue result ↔ IsItemFull (behind_all symbols.now) }
 {
     let (braces, own) = behind_all(symbols);
-    braces > 0 && own == ITEM_TOKENS
+    braces > 0 && own == ITEM_TOKENS as usize
+}
+
+fn is_wire(symbol: Symbol) -> bool
+    ensures { result ≡ is_wire symbol }
+{
+    matches!(symbol, Symbol::Wire)
+}
+
+fn is_wire_at(symbols: &[Symbol], place: u32) -> bool
+    ensures { result ≡ is_wire (symbol_at symbols.now place) }
+{
+    match symbols.get(place as usize) {
+        Some(symbol) => is_wire(*symbol),
+        None => false,
+    }
+}
+
+/// Whether a token is one too many of its item.
+fn is_one_too_many(symbols: &[Symbol], place: u32) -> bool
+    requires within { place < length symbols.now }
+    ensures { IsTrue result ↔ IsOneTooMany symbols.now place }
+{
+    if is_wire_at(symbols, place.saturating_sub(ITEM_TOKENS)) {
+        return false;
+    }
+    is_item_full(&symbols[..place as usize])
 }
 
 /// Whether a token may be too deep.
@@ -144,11 +170,10 @@ fn is_token_deep(symbols: &[Symbol], place: u32) -> bool
     requires within { place < length symbols.now }
     ensures { IsTrue result ↔ MayBeTooDeep symbols.now place }
 {
-    let before = &symbols[..place as usize];
-    if is_item_full(before) {
+    if is_one_too_many(symbols, place) {
         return true;
     }
-    begins_at(symbols, place) && OPENERS < openers_in(before)
+    begins_at(symbols, place) && OPENERS < openers_in(&symbols[..place as usize])
 }
 
 /// Whether there is a token at a place that may be too deep.
