@@ -48,6 +48,7 @@ fn told_at(alloc: Global, text: &[u8], tokens: &[Token], token: u32) -> ParseErr
 }
 
 /// A fault as it is told.
+#[tactic(auto, using(crate::proofs::Told::end_told))]
 fn told(alloc: Global, text: &[u8], tokens: &[Token], error: ParseError) -> ParseError
     ensures memory { error ≡ OutOfMemory → result ≡ OutOfMemory }
     ensures deep { IsToldRightly (outside text.now tokens.now) result }

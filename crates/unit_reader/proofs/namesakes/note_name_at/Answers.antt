@@ -1,4 +1,3 @@
-use Rattle.std.proofs.Common.{sym}
 use Rattle.unit_reader.proofs.Noting.{name_noted}
 use Rattle.unit_reader.proofs.namesakes.note_name_at.Goals as goal
 
