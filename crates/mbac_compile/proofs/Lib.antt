@@ -1,1 +1,7 @@
+mod Alike
 mod Bits
+mod Built
+mod Empty
+mod Guards
+mod Names
+mod Ports
