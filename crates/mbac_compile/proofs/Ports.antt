@@ -1,16 +1,29 @@
 -- The signals that a directive uses as the ports of its checker.
 use Rattle.std.proofs.Common.{◌≡◌, ◌≢◌, ℕ, zero, suc, ◌<◌, List, [], ◌∷◌, map, length, get_or, refl, ap, sym, subst}
-use Rattle.std.proofs.Common.{◌∙◌, arith, Some, None, Option}
+use Rattle.std.proofs.Common.{◌∙◌, arith, Some, None, Option, ◌+◌, ◌++◌, ◌≤◌, take}
 use Rattle.std.specs.Prelude.{All, AllPairs, slice_get, slice_index}
 use Rattle.std.specs.List.{filter_map, cons_option}
 use Rattle.std.specs.List.Sorted.{IsStrictlyIncreasing}
-use Rattle.std.proofs.lemmas.List.{get_or-map, length-map}
-use Rattle.std.proofs.lemmas.List.Elements.{All-map}
+use Rattle.std.proofs.lemmas.List.{get_or-map, length-map, take_more}
+use Rattle.std.proofs.lemmas.List.Elements.{All-map, filter_map-append}
 use Rattle.std.proofs.lemmas.List.Kept.{AllPairs-from_increasing}
+use Rattle.std.proofs.Math.Seq.{take-length}
 use Rattle.psl_model.specs.declared.names.Signal.{Signal}
 use Rattle.port_formulas.specs.Chosen.{chosen}
 use Rattle.verilog_text.specs.Module.{IsPort}
 use Rattle.verilog_text.specs.Interface.{port_widths}
+
+-- the signals at some places, one place after the other
+pub one_more : (signals : List Signal) (places : List ℕ) (i : ℕ) → i < length places →
+    filter_map (slice_get signals) (take (i + 1) places)
+    ≡ filter_map (slice_get signals) (take i places) ++ cons_option (slice_get signals (get_or places i 0)) []
+one_more signals places i lt =
+    ap (filter_map (slice_get signals)) (take_more places i 0 lt)
+    ∙ filter_map-append (slice_get signals) (take i places) (get_or places i 0 ∷ [])
+
+pub all_taken : (signals : List Signal) (places : List ℕ) (i : ℕ) → i ≡ length places →
+    filter_map (slice_get signals) (take i places) ≡ filter_map (slice_get signals) places
+all_taken signals places i e = ap (filter_map (slice_get signals)) (ap (λ (n : ℕ). take n places) e ∙ take-length places)
 
 -- what stands for a signal where there is none
 abbrev nowhere : Signal
@@ -19,11 +32,16 @@ nowhere = record { name = []; width = 0 }
 abbrev pub at : List Signal → ℕ → Signal
 at signals place = get_or signals place nowhere
 
-there : {X : Type 0} (xs : List X) (place : ℕ) (d : X) → place < length xs →
+pub there : {X : Type 0} (xs : List X) (place : ℕ) (d : X) → place < length xs →
     slice_get xs place ≡ Some (get_or xs place d)
 there [] place d lt = absurd (omega arith)
 there (x ∷ xs) zero d lt = refl
 there (x ∷ xs) (suc place) d lt = let lower : place < length xs = omega arith in there xs place d lower
+
+pub past_the_end : {X : Type 0} (xs : List X) (place : ℕ) → length xs ≤ place → slice_get xs place ≡ None
+past_the_end [] place le = refl
+past_the_end (x ∷ xs) zero le = absurd (omega arith)
+past_the_end (x ∷ xs) (suc place) le = let lower : length xs ≤ place = omega arith in past_the_end xs place lower
 
 tail : (P : ℕ → Type 0) (place : ℕ) (places : List ℕ) → All P (place ∷ places) → All P places
 tail P place places h = λ k d lt. let higher : suc k < length (place ∷ places) = omega arith in h (suc k) d higher

@@ -1,7 +1,7 @@
 //! What the checker module of a directive is called, tells people and watches.
 
-ghost use Rattle.std.specs.Prelude.{◌≡◌, ◌++◌, codes, slice_get, IfOk};
-ghost use Rattle.std.specs.List.{filter_map};
+ghost use Rattle.std.specs.Prelude.{◌≡◌, ◌++◌, [], codes, slice_get, IfOk, OnOk};
+ghost use Rattle.std.specs.List.{filter_map, cons_option};
 ghost use Rattle.verilog_text.specs.Interface.{port_widths};
 ghost use Rattle.checker_meaning.specs.Headline.{call_name, shown_report};
 
@@ -43,6 +43,7 @@ pub(crate) fn shown_report(
 }
 
 /// The signals at these places. A place past the last signal gives none.
+#[tactic(auto, using(crate::proofs::Ports::one_more, crate::proofs::Ports::all_taken))]
 pub(crate) fn ports_at(
     alloc: Global,
     signals: &[Signal],
@@ -52,11 +53,28 @@ pub(crate) fn ports_at(
 {
     let mut ports = Vec::new(alloc);
     for place in places {
-        if let Some(signal) = signals.get(*place) {
-            ports.push(copy_of(alloc, signal)?)?;
-        }
+        put_port(alloc, signals, *place, &mut ports)?;
     }
     Ok(ports)
+}
+
+fn put_port(
+    alloc: Global,
+    signals: &[Signal],
+    place: usize,
+    ports: &mut Vec<Signal>,
+) -> Result<(), AllocError>
+    ensures { OnOk result
+        (ports.new.items ≡ ports.old.items ++ cons_option (slice_get signals.now place) []) }
+{
+    match signals.get(place) {
+        Some(signal) => {
+            let port = copy_of(alloc, signal)?;
+            ports.push(port)?;
+            Ok(())
+        }
+        None => Ok(()),
+    }
 }
 
 fn copy_of(alloc: Global, signal: &Signal) -> Result<Signal, AllocError>
