@@ -3,5 +3,6 @@ mod Bits
 mod Built
 mod Empty
 mod Guards
+mod Joined
 mod Names
 mod Ports

@@ -99,5 +99,6 @@ fn built_checker(
     let widths = widths_of(alloc, &ports)?;
     let name = module_name(alloc, &unit.name, number, &directive.label)?;
     let report = shown_report(alloc, &directive.report)?;
-    checker_of(alloc, &base, &widths, STEP_LIMIT, name, report, ports)
+    let checker = checker_of(alloc, &base, &widths, STEP_LIMIT, name, report, ports)?;
+    Ok(checker)
 }
