@@ -151,7 +151,7 @@ base_built (always f) h = base_built f h
 base_built (never (bool e)) h = tt
 base_built f h = absurd (false≢true h)
 
-no_steps : (b : Base) → base.IsBuilt b → steps_of b ≡ 0
+pub no_steps : (b : Base) → base.IsBuilt b → steps_of b ≡ 0
 no_steps (plain.bool e) h = refl
 no_steps (plain.and f g) h =
     ap (λ (n : ℕ). n + steps_of g) (no_steps f h.0) ∙ (let e : 0 + steps_of g ≡ steps_of g = omega arith in e)

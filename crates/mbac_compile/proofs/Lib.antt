@@ -6,3 +6,4 @@ mod Guards
 mod Joined
 mod Names
 mod Ports
+mod Refused

@@ -41,6 +41,7 @@ pub enum CheckError {
 
 /// The checker of a unit's directive. The number is the directive's place among those of its unit, from 1; the name of
 /// a directive without a label has it.
+#[tactic(auto, using(crate::proofs::Refused::refused_so))]
 pub fn checker_of_directive(
     alloc: Global,
     unit: &PslUnit,
