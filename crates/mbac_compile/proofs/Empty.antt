@@ -27,9 +27,10 @@ everywhere_holds widths f = λ p. false≢true p.1
 
 pub satisfied : (widths : List ℕ) (f : Formula) → IsBuilt f → Satisfies widths (core_formula_of f) no_word
 satisfied widths (bool e) h = tt
-satisfied widths (and f g) h =
-    (satisfied widths f (left_of (is_built f) (is_built g) h),
-    satisfied widths g (right_of (is_built f) (is_built g) h))
+satisfied widths (and f g) h = (
+  satisfied widths f (left_of (is_built f) (is_built g) h),
+  satisfied widths g (right_of (is_built f) (is_built g) h),
+)
 satisfied widths (or f g) h =
     or_right widths (core_formula_of f) (core_formula_of g) (satisfied widths g (or_built f g h).right)
 satisfied widths (implies f g) h =

@@ -13,7 +13,7 @@ ghost use Rattle.checker_meaning.specs.Headline.{IsCheckerOf};
 ghost use Rattle.mbac_compile.specs.Built.{IsBuilt};
 ghost use Rattle.mbac_compile.specs.Units.{IsWellNamed, IsWellWorded, IsWellFormed};
 ghost use Rattle.mbac_compile.specs.Refusals.{IsRefused};
-ghost use Rattle.mbac_compile.specs.declared.directives.CheckError.TheVariants.{Unbuilt};
+ghost use Rattle.mbac_compile.specs.declared.directives.CheckError.TheVariants.{Unbuilt, Circuit};
 
 use crate::checkers::{Checker, checker_of};
 use crate::formulas::{base_over, is_built};
@@ -37,6 +37,14 @@ pub enum CheckError {
     Unbuilt,
     /// The base form of the formula gets no circuit.
     Circuit(CircuitError),
+}
+
+impl From<CircuitError> for CheckError {
+    ghost from_gives = { λ error e. e ≡ Circuit error };
+
+    fn from(error: CircuitError) -> CheckError {
+        CheckError::Circuit(error)
+    }
 }
 
 /// The checker of a unit's directive. The number is the directive's place among those of its unit, from 1; the name of
@@ -64,10 +72,8 @@ pub fn checker_of_directive(
     if !is_built(&directive.formula) {
         return Err(CheckError::Unbuilt);
     }
-    match built_checker(alloc, unit, number, directive) {
-        Ok(checker) => Ok(checker),
-        Err(error) => Err(CheckError::Circuit(error)),
-    }
+    let checker = built_checker(alloc, unit, number, directive)?;
+    Ok(checker)
 }
 
 /// The same of a built formula.

@@ -30,10 +30,7 @@ pub(crate) fn module_name(
 }
 
 /// The report text that a checker shows. It shows no empty one.
-pub(crate) fn shown_report(
-    alloc: Global,
-    report: &Option<Name>,
-) -> Result<Option<Name>, AllocError>
+pub(crate) fn shown_report(alloc: Global, report: &Option<Name>) -> Result<Option<Name>, AllocError>
     ensures { IfOk result (λ shown. shown ≡ shown_report report.now) }
 {
     match report {

@@ -81,11 +81,11 @@ returns-clause-checker c =
       report = c.in_ok-checker.ensures.report ∙ c.in_ok-report.ensures;
       ports = c.in_ok-checker.ensures.ports ∙ ports;
       checks = c.in_ok-checker.ensures.checks (widths_of unit) (places_of unit directive) f
-      (reads_too (widths_of unit) (places_of unit directive) (chosen (places_of unit directive) (widths_of unit))
-      c.deref-4.result.now f (base_form_of (over (places_of unit directive) f)) (base_of c.in_ok-base.base) widths base
-      (subst (λ (n : ℕ). ReadsAs (widths_of unit) (used_places n f) (chosen (used_places n f) (widths_of unit)) f
-      (named (base_form_of (over (used_places n f) f))))
-      (length-map unit.signals (λ (s : Signal). s.width))
-      (c.a_built_formula_reads_as_its_base_form.ensures.reads (widths_of unit) f c.requires.built
-      c.requires.expressions)));
+          (reads_too (widths_of unit) (places_of unit directive) (chosen (places_of unit directive) (widths_of unit))
+          c.deref-4.result.now f (base_form_of (over (places_of unit directive) f)) (base_of c.in_ok-base.base) widths base
+          (subst (λ (n : ℕ). ReadsAs (widths_of unit) (used_places n f) (chosen (used_places n f) (widths_of unit)) f
+          (named (base_form_of (over (used_places n f) f))))
+          (length-map unit.signals (λ (s : Signal). s.width))
+          (c.a_built_formula_reads_as_its_base_form.ensures.reads (widths_of unit) f c.requires.built
+          c.requires.expressions)));
     }

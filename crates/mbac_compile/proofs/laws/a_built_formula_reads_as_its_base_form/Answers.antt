@@ -41,7 +41,7 @@ returns-clause-reads c widths f built has =
     record {
       fits = λ values fit. c.chosen_values_fit.ensures places widths values fit;
       weakly = λ trace fit. weakly_same (chosen places widths) inner same (WeaklyViolates widths f trace)
-      (map (chosen places) trace) (law.weakly places widths f trace uses);
+          (map (chosen places) trace) (law.weakly places widths f trace uses);
       whole = λ trace fit. wholly_same (chosen places widths) inner same inner_built (Violates widths f trace)
-      (map (chosen places) trace) (law.whole places widths f trace uses);
+          (map (chosen places) trace) (law.whole places widths f trace uses);
     }

@@ -21,7 +21,7 @@ returns-clause-interface c unit number directive small named worded =
       report = shown directive.report worded.report;
       ports = subst (All IsPort) are (ports_fit unit.signals places inside named.signals);
       distinct = subst (λ (ports : List Signal). AllPairs (λ p q. p ≢ q) (map (λ (p : Signal). p.name) ports)) are
-      (ports_differ unit.signals places inside rising named.distinct);
+          (ports_differ unit.signals places inside rising named.distinct);
     }
 
 pub returns-clause-widths : goal.returns-clause-widths
