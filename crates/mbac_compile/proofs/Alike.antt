@@ -1,10 +1,8 @@
 -- What a built formula says, its base form over the signals that it uses says of these.
-use Rattle.std.proofs.Common.{◌≡◌, ◌≢◌, ℕ, zero, suc, List, [], ◌∷◌, map, Some, refl}
-use Rattle.std.specs.Prelude.{◌↔◌, slice_get}
+use Rattle.std.proofs.Common.{ℕ, zero, suc, List, [], ◌∷◌, map, refl}
+use Rattle.std.specs.Prelude.{◌↔◌}
 use Rattle.psl_model.specs.Formula.{Formula}
-use Rattle.psl_meaning.specs.Word.{Valuation, valuation, bottom, finite, with_tops, Reaches}
-use Rattle.psl_meaning.specs.Formula.{CoreFormula, Satisfies}
-use Rattle.psl_meaning.specs.FormulaSugar.{core_formula_of}
+use Rattle.psl_meaning.specs.Word.{Valuation, valuation, finite, with_tops, Reaches}
 use Rattle.psl_meaning.specs.Violation.{WeaklyViolates, Violates}
 use Rattle.psl_rewrite.specs.BaseForm.{base_form_of}
 use Rattle.psl_rewrite.specs.Meaning.{named}

@@ -3,8 +3,7 @@ use Rattle.std.proofs.Common.{◌≡◌, ℕ, ◌+◌, List, [], ◌++◌, Bool,
 use Rattle.std.proofs.Common.{arith}
 use Rattle.std.specs.Prelude.{◌&&◌, ◌||◌, IsTrue}
 use Rattle.std.proofs.lemmas.Bool.{false≢true}
-use Rattle.psl_model.specs.Formula.{Formula, bool, not, and, or, implies, iff, seq, suffix, always, never, eventually}
-use Rattle.psl_model.specs.Formula.{next, event, until, before, abort}
+use Rattle.psl_model.specs.Formula.{Formula, bool, and, or, implies, always, never}
 use Rattle.simple_subset.specs.Subset.{is_boolean, broken_rules, unless, InSubset}
 use Rattle.psl_rewrite.specs.Base as plain
 use Rattle.psl_rewrite.specs.Base.{Base}

@@ -1,6 +1,5 @@
 -- The word without letters satisfies each built formula, and what each built base formula means.
-use Rattle.std.proofs.Common.{ℕ, List, [], false}
-use Rattle.std.specs.Prelude.{IsTrue}
+use Rattle.std.proofs.Common.{ℕ, List, []}
 use Rattle.std.proofs.lemmas.Bool.{false≢true}
 use Rattle.psl_model.specs.Formula.{Formula, bool, and, or, implies, always, never}
 use Rattle.psl_meaning.specs.Word.{finite, Word}
@@ -14,7 +13,7 @@ use Rattle.psl_rewrite.specs.Base.{Base}
 use Rattle.psl_rewrite.specs.Meaning.{named}
 use Rattle.property_circuits.specs.Conditions as conditions
 use Rattle.mbac_compile.specs.Built.{is_built, IsBuilt}
-use Rattle.mbac_compile.proofs.Built.{left_of, right_of, either_of, or_built}
+use Rattle.mbac_compile.proofs.Built.{left_of, right_of, or_built}
 
 abbrev pub no_word : Word
 no_word = finite []

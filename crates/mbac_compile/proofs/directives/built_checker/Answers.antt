@@ -1,4 +1,4 @@
-use Rattle.std.proofs.Common.{◌≡◌, ℕ, List, map, ap, ◌∙◌, subst}
+use Rattle.std.proofs.Common.{◌≡◌, ℕ, List, ap, ◌∙◌, subst}
 use Rattle.std.specs.Prelude.{slice_get}
 use Rattle.std.specs.List.{filter_map}
 use Rattle.std.proofs.lemmas.List.{length-map}
@@ -7,7 +7,6 @@ use Rattle.psl_model.specs.Formula.{Formula}
 use Rattle.psl_model.specs.Unit.{PslUnit, Directive}
 use Rattle.psl_model.specs.UnitView.{unit_of, directive_of}
 use Rattle.psl_model.specs.Uses.{used_places}
-use Rattle.psl_rewrite.specs.Base.{Base}
 use Rattle.psl_rewrite.specs.BaseForm.{base_form_of}
 use Rattle.psl_rewrite.specs.View.{base_of}
 use Rattle.psl_rewrite.specs.Meaning.{named}

@@ -1,11 +1,11 @@
-use Rattle.std.proofs.Common.{◌≢◌, ◌<◌, ℕ, List, length, map, refl, sym, subst, ap, ◌∙◌}
+use Rattle.std.proofs.Common.{◌≢◌, ℕ, List, length, map, refl, sym, subst, ap, ◌∙◌}
 use Rattle.std.specs.Prelude.{All, AllPairs}
 use Rattle.psl_model.specs.declared.names.Signal.{Signal}
 use Rattle.verilog_text.specs.Interface.{port_widths}
 use Rattle.verilog_text.specs.Module.{IsPort}
 use Rattle.checker_meaning.specs.Headline.{places_of}
 use Rattle.mbac_compile.proofs.Names.{identifier, shown}
-use Rattle.mbac_compile.proofs.Ports.{at, ports_are, ports_fit, ports_differ, widths_are}
+use Rattle.mbac_compile.proofs.Ports.{ports_are, ports_fit, ports_differ, widths_are}
 use Rattle.mbac_compile.proofs.laws.a_unit_gives_interfaces.Goals as goal
 
 pub returns-clause-interface : goal.returns-clause-interface
