@@ -23,7 +23,8 @@ one_more signals places i lt =
 
 pub all_taken : (signals : List Signal) (places : List ℕ) (i : ℕ) → i ≡ length places →
     filter_map (slice_get signals) (take i places) ≡ filter_map (slice_get signals) places
-all_taken signals places i e = ap (filter_map (slice_get signals)) (ap (λ (n : ℕ). take n places) e ∙ take-length places)
+all_taken signals places i e =
+    ap (filter_map (slice_get signals)) (ap (λ (n : ℕ). take n places) e ∙ take-length places)
 
 -- what stands for a signal where there is none
 abbrev nowhere : Signal
@@ -85,7 +86,8 @@ name_at signals place d lt = get_or-map (λ (s : Signal). s.name) signals place 
 port_name_at : (signals : List Signal) (places : List ℕ) (k : ℕ) (d : List ℕ) → k < length places →
     get_or (names (map (at signals) places)) k d ≡ (at signals (get_or places k 0)).name
 port_name_at signals places k d lt =
-    let long : k < length (map (at signals) places) = subst (λ (n : ℕ). k < n) (sym (length-map places (at signals))) lt in
+    let long : k < length (map (at signals) places) =
+    subst (λ (n : ℕ). k < n) (sym (length-map places (at signals))) lt in
     name_at (map (at signals) places) k d long
     ∙ ap (λ (s : Signal). s.name) (get_or-map (at signals) places k 0 nowhere lt)
 

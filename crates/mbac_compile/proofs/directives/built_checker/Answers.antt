@@ -81,7 +81,8 @@ returns-clause-checker c =
       ports = c.in_ok-checker.ensures.ports ∙ ports;
       checks = c.in_ok-checker.ensures.checks (widths_of unit) (places_of unit directive) f
           (reads_too (widths_of unit) (places_of unit directive) (chosen (places_of unit directive) (widths_of unit))
-          c.deref-4.result.now f (base_form_of (over (places_of unit directive) f)) (base_of c.in_ok-base.base) widths base
+          c.deref-4.result.now f (base_form_of (over (places_of unit directive) f)) (base_of c.in_ok-base.base) widths
+          base
           (subst (λ (n : ℕ). ReadsAs (widths_of unit) (used_places n f) (chosen (used_places n f) (widths_of unit)) f
           (named (base_form_of (over (used_places n f) f))))
           (length-map unit.signals (λ (s : Signal). s.width))
