@@ -82,9 +82,10 @@ module _ (law : HasOneBit) (m : Netlist) (made : Module) (widths places : List �
         let e : take (suc n) (map (values_at places) trace) ≡ map (values_at places) (take (suc n) trace) =
         take-map (values_at places) (suc n) trace in
         let P : List Valuation → Type 0 = λ ls. WeaklyViolates m.widths inner ls in
-        let meaning = reads.weakly (take (suc n) trace) (All-take (FitWidths widths) (suc n) trace is_trace.fits) in
-        ((λ r. meaning.1 (subst P e (judged.0 (comes.0 r)))),
-        (λ w. comes.1 (judged.1 (subst P (sym e) (meaning.0 w)))));
+        let meaning = reads.weakly (take (suc n) trace) (All-take (FitWidths widths) (suc n) trace is_trace.fits) in (
+          (λ r. meaning.1 (subst P e (judged.0 (comes.0 r)))),
+          (λ w. comes.1 (judged.1 (subst P (sym e) (meaning.0 w)))),
+        );
     ends = λ trace reset cycles is_trace run.
         let eots = ends_last trace in
         let last = length trace - 1 in

@@ -1,6 +1,6 @@
 -- A module whose registers are those of a netlist has as many register bits as the netlist, and ports have widths that
 -- signals may have.
-use Rattle.std.proofs.Common.{◌≡◌, ℕ, ◌+◌, List, [], ◌∷◌, map, ap, sym, refl, ◌∙◌, subst}
+use Rattle.std.proofs.Common.{◌≡◌, ℕ, List, [], ◌∷◌, map, ap, sym, refl, ◌∙◌, subst}
 use Rattle.std.specs.Prelude.{All, sum}
 use Rattle.std.proofs.lemmas.List.Elements.{All-map}
 use Rattle.psl_model.specs.declared.names.Signal.{Signal}

@@ -1,1 +1,9 @@
+mod Alike
 mod Bits
+mod Built
+mod Empty
+mod Guards
+mod Joined
+mod Names
+mod Ports
+mod Refused

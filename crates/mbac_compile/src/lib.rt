@@ -2,5 +2,11 @@
 #![tactic(auto)]
 
 mod checkers;
+mod directives;
+mod formulas;
+mod interfaces;
+mod laws;
 
 pub use checkers::{Checker, checker_of};
+pub use directives::{CheckError, checker_of_directive};
+pub use formulas::is_built;

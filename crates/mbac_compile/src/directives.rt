@@ -1,0 +1,111 @@
+//! The checker module of a directive.
+
+ghost use Rattle.std.specs.Prelude.{◌≡◌, ◌↔◌, ◌≤◌, IfOk, IfErr, OnOk, IsErrOf, sum};
+ghost use Rattle.psl_model.specs.UnitView.{unit_of, directive_of};
+ghost use Rattle.psl_model.specs.View.{formula_of};
+ghost use Rattle.psl_rewrite.specs.BaseForm.{base_form_of};
+ghost use Rattle.verilog_text.specs.Module.{IsLawful};
+ghost use Rattle.verilog_text.specs.State.{register_widths};
+ghost use Rattle.verilog_text.specs.View.{module_of};
+ghost use Rattle.property_circuits.specs.Counts.{budget_of, steps_of, register_limit, step_limit};
+ghost use Rattle.property_circuits.specs.Refusals.{IsRefusal};
+ghost use Rattle.checker_meaning.specs.Headline.{IsCheckerOf};
+ghost use Rattle.mbac_compile.specs.Built.{IsBuilt};
+ghost use Rattle.mbac_compile.specs.Units.{IsWellNamed, IsWellWorded, IsWellFormed};
+ghost use Rattle.mbac_compile.specs.Refusals.{IsRefused};
+ghost use Rattle.mbac_compile.specs.declared.directives.CheckError.TheVariants.{Unbuilt, Circuit};
+
+use crate::checkers::{Checker, checker_of};
+use crate::formulas::{base_over, is_built};
+use crate::interfaces::{module_name, ports_at, shown_report, widths_of};
+use crate::laws::{
+    a_built_formula_has_a_built_base_form, a_built_formula_reads_as_its_base_form,
+    a_unit_gives_interfaces,
+};
+use port_formulas::used_places;
+use property_circuits::CircuitError;
+use psl_model::{Directive, PslUnit};
+use std::alloc::Global;
+
+/// The most steps that the tables of a unit's sequences may have.
+const STEP_LIMIT: u64 = 1_000_000;
+
+/// Why a directive gets no checker.
+#[derive(Clone, Copy, Debug, PartialEq, Eq)]
+pub enum CheckError {
+    /// Checkers aren't made of such formulas yet.
+    Unbuilt,
+    /// The base form of the formula gets no circuit.
+    Circuit(CircuitError),
+}
+
+impl From<CircuitError> for CheckError {
+    ghost from_gives = { λ error e. e ≡ Circuit error };
+
+    fn from(error: CircuitError) -> CheckError {
+        CheckError::Circuit(error)
+    }
+}
+
+/// The checker of a unit's directive. The number is the directive's place among those of its unit, from 1; the name of
+/// a directive without a label has it.
+#[tactic(auto, using(crate::proofs::Refused::refused_so))]
+pub fn checker_of_directive(
+    alloc: Global,
+    unit: &PslUnit,
+    number: usize,
+    directive: &Directive,
+) -> Result<Checker, CheckError>
+    requires names { IsWellNamed (unit_of unit.now) }
+    requires words { IsWellWorded (directive_of directive.now) }
+    requires expressions { IsWellFormed (unit_of unit.now) (directive_of directive.now) }
+    ensures checker { IfOk result (λ x.
+        IsCheckerOf (unit_of unit.now) number (directive_of directive.now) (module_of x.checker)) }
+    ensures lawful { IfOk result (λ x. IsLawful (module_of x.checker)) }
+    ensures bits { IfOk result (λ x.
+        sum (register_widths (module_of x.checker)) ≤ budget_of (base_form_of (formula_of directive.now.formula))) }
+    ensures steps { IfOk result (λ x. x.steps ≡ steps_of (base_form_of (formula_of directive.now.formula))) }
+    ensures within { OnOk result (budget_of (base_form_of (formula_of directive.now.formula)) ≤ register_limit) }
+    ensures unbuilt { IsErrOf result Unbuilt ↔ (¬ IsBuilt (formula_of directive.now.formula)) }
+    ensures refused { IfErr result (IsRefused (formula_of directive.now.formula)) }
+{
+    if !is_built(&directive.formula) {
+        return Err(CheckError::Unbuilt);
+    }
+    let checker = built_checker(alloc, unit, number, directive)?;
+    Ok(checker)
+}
+
+/// The same of a built formula.
+fn built_checker(
+    alloc: Global,
+    unit: &PslUnit,
+    number: usize,
+    directive: &Directive,
+) -> Result<Checker, CircuitError>
+    requires names { IsWellNamed (unit_of unit.now) }
+    requires words { IsWellWorded (directive_of directive.now) }
+    requires expressions { IsWellFormed (unit_of unit.now) (directive_of directive.now) }
+    requires built { IsBuilt (formula_of directive.now.formula) }
+    ensures checker { IfOk result (λ x.
+        IsCheckerOf (unit_of unit.now) number (directive_of directive.now) (module_of x.checker)) }
+    ensures lawful { IfOk result (λ x. IsLawful (module_of x.checker)) }
+    ensures bits { IfOk result (λ x.
+        sum (register_widths (module_of x.checker)) ≤ budget_of (base_form_of (formula_of directive.now.formula))) }
+    ensures steps { IfOk result (λ x. x.steps ≡ steps_of (base_form_of (formula_of directive.now.formula))) }
+    ensures within { OnOk result (budget_of (base_form_of (formula_of directive.now.formula)) ≤ register_limit) }
+    ensures refused { IfErr result
+        (IsRefusal (base_form_of (formula_of directive.now.formula)) step_limit) }
+{
+    a_built_formula_has_a_built_base_form();
+    a_built_formula_reads_as_its_base_form();
+    a_unit_gives_interfaces();
+    let places = used_places(alloc, unit.signals.len(), &directive.formula)?;
+    let base = base_over(alloc, &places, &directive.formula)?;
+    let ports = ports_at(alloc, unit.signals.as_slice(), &places)?;
+    let widths = widths_of(alloc, &ports)?;
+    let name = module_name(alloc, &unit.name, number, &directive.label)?;
+    let report = shown_report(alloc, &directive.report)?;
+    let checker = checker_of(alloc, &base, &widths, STEP_LIMIT, name, report, ports)?;
+    Ok(checker)
+}
