@@ -3,7 +3,6 @@
 use port_formulas::{over_places, used_places};
 use psl_model::{Expr, Formula, Subformula};
 use std::alloc::{AllocError, Global};
-use std::test::Fail;
 
 fn formula(alloc: Global) -> Result<Formula, AllocError> {
     let d = Subformula::new(alloc, Formula::Bool(Expr::Whole(3)))?;
@@ -11,32 +10,48 @@ fn formula(alloc: Global) -> Result<Formula, AllocError> {
     Ok(Formula::Always(aborted))
 }
 
-// Whether the formula is that one, with these numbers for `d` and `b`.
-fn is_over(formula: &Formula, d: usize, b: usize) -> bool {
-    let Formula::Always(aborted) = formula else {
-        return false;
-    };
-    let Formula::Abort(body, Expr::Bit(on, 2)) = aborted.get() else {
-        return false;
-    };
-    let Formula::Bool(Expr::Whole(signal)) = body.get() else {
-        return false;
-    };
-    *signal == d && *on == b
+fn is_signal(formula: &Formula, number: usize) -> bool {
+    matches!(formula, Formula::Bool(Expr::Whole(signal)) if *signal == number)
+}
+
+fn is_aborted(formula: &Formula, body: usize, on: usize) -> bool {
+    match formula {
+        Formula::Abort(inner, Expr::Bit(signal, 2)) => *signal == on
+            && is_signal(inner.get(), body),
+        _ => false,
+    }
+}
+
+fn is_always_aborted(formula: &Formula, body: usize, on: usize) -> bool {
+    match formula {
+        Formula::Always(inner) => is_aborted(inner.get(), body, on),
+        _ => false,
+    }
+}
+
+fn uses_1_and_3(alloc: Global, formula: &Formula) -> bool {
+    match used_places(alloc, 5, formula) {
+        Ok(places) => places.as_slice() == [1, 3].as_slice(),
+        Err(_) => false,
+    }
+}
+
+fn has_ports_in_order(alloc: Global, formula: &Formula) -> bool {
+    match over_places(alloc, &[1, 3], formula) {
+        Ok(over) => is_always_aborted(&over, 1, 0),
+        Err(_) => false,
+    }
+}
+
+// Whether the formula is made, and each of its two answers is right.
+fn both_are_right(alloc: Global) -> bool {
+    match formula(alloc) {
+        Ok(formula) => uses_1_and_3(alloc, &formula) && has_ports_in_order(alloc, &formula),
+        Err(_) => false,
+    }
 }
 
 #[test]
-fn the_used_places_ascend(rt: HostRuntime) -> Result<(), Fail> {
-    let formula = formula(rt.alloc())?;
-    let places = used_places(rt.alloc(), 5, &formula)?;
-    assert!(rt; places.as_slice() == [1, 3].as_slice());
-    Ok(())
-}
-
-#[test]
-fn the_ports_are_numbered_in_their_order(rt: HostRuntime) -> Result<(), Fail> {
-    let formula = formula(rt.alloc())?;
-    let over = over_places(rt.alloc(), &[1, 3], &formula)?;
-    assert!(rt; is_over(&over, 1, 0));
-    Ok(())
+fn the_ports_are_the_used_signals_in_their_order(rt: HostRuntime) {
+    assert!(rt; both_are_right(rt.alloc()));
 }
