@@ -1,7 +1,5 @@
 //! Why a text is no unit.
 
-ghost use Rattle.std.specs.Prelude.{◌≡◌};
-
 use psl_lexer::LexError;
 use psl_parser::ParseError;
 use psl_units::UnitError;

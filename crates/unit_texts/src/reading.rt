@@ -2,7 +2,6 @@
 
 ghost use Rattle.std.specs.Prelude.{◌≡◌, ◌≤◌, ◌+◌, ◌<◌, ◌^◌, All, length, IfOk, MatchResult};
 ghost use Rattle.psl_lexer.specs.Order.{LiesWithin};
-ghost use Rattle.psl_lexer.specs.Splits.{Splits};
 ghost use Rattle.psl_model.specs.Limits.{unit_text_limit};
 ghost use Rattle.psl_model.specs.Unit as plain;
 ghost use Rattle.psl_model.specs.UnitView.{unit_of};
@@ -10,7 +9,6 @@ ghost use Rattle.psl_units.specs.StandsForUnit.{StandsForUnit};
 ghost use Rattle.unit_texts.specs.Memory.{IsMemory};
 ghost use Rattle.unit_texts.specs.inner.Given.{StandsByTokens, StandsByTree};
 ghost use Rattle.psl_grammar.specs.UnitView.{unit_of as raw_unit_of};
-ghost use Rattle.psl_grammar.specs.Units.{IsUnit};
 
 use crate::errors::TextError;
 use psl_grammar::RawUnit;
