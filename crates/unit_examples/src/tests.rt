@@ -1,5 +1,0 @@
-//! Units and refusals, worked out by hand. `@` stands before the token at which a text is refused.
-
-mod limits;
-mod rules;
-mod units;
