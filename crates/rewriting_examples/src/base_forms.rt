@@ -192,7 +192,7 @@ fn prints(alloc: Global, base: &Base, told: &str) -> bool {
     }
 }
 
-// The base form, on the heap, so that no function drops a whole tree in its own frame.
+// The base form, on the heap, since a function that drops a bare tree is slow to prove.
 fn base_form(alloc: Global, formula: &Formula) -> Result<Subbase, AllocError> {
     Subbase::new(alloc, rewrite(alloc, formula)?)
 }
@@ -213,7 +213,7 @@ fn is_told(alloc: Global, made: Result<Subformula, AllocError>, told: &str) -> b
 }
 
 #[test]
-fn a_leaf_keeps_its_mark(rt: HostRuntime) {
+fn leaves_stay_as_they_are(rt: HostRuntime) {
     for (kind, told) in &LEAVES {
         let leaf = make_operand(rt.alloc(), *kind);
         assert!(rt; is_told(rt.alloc(), leaf, told), "{told}");
