@@ -3,6 +3,8 @@
 #![tactic(auto)]
 
 #[cfg(test)]
+mod answers;
+#[cfg(test)]
 mod dumps;
 #[cfg(test)]
 mod faults;
@@ -12,5 +14,7 @@ mod names;
 mod pieces;
 #[cfg(test)]
 mod samples;
+#[cfg(test)]
+mod tokens;
 #[cfg(test)]
 mod verdicts;

@@ -1,5 +1,6 @@
 //! The scopes and names of variables, and the numbers of their identifiers.
 
+use crate::pieces::is_read_alike;
 use std::test::Fail;
 use vcd_reader::Vcd;
 
@@ -18,6 +19,7 @@ const DECLARATIONS: &str =
 
 #[test]
 fn a_path_joins_names_and_a_range_is_cut(rt: HostRuntime) -> Result<(), Fail> {
+    assert!(rt; is_read_alike(rt.alloc(), DECLARATIONS.as_bytes()));
     let vcd = Vcd::read(rt.alloc(), DECLARATIONS.as_bytes())?;
     assert_eq!(rt; vcd.vars.len(), 4);
     for (place, scope, name, code) in [

@@ -63,3 +63,18 @@ fn has(answer: Result<Vcd, VcdError>, vars: usize, changes: usize) -> bool {
         Err(_) => false,
     }
 }
+
+/// A text is the same waveform, or has the same fault, whole and in pieces of one, two or seven bytes.
+pub fn is_read_alike(alloc: Global, text: &[u8]) -> bool {
+    is_alike(Vcd::read(alloc, text), read_in_pieces(alloc, text, 1))
+        && is_alike(Vcd::read(alloc, text), read_in_pieces(alloc, text, 2))
+        && is_alike(Vcd::read(alloc, text), read_in_pieces(alloc, text, 7))
+}
+
+fn is_alike(whole: Result<Vcd, VcdError>, joined: Result<Vcd, VcdError>) -> bool {
+    match (whole, joined) {
+        (Ok(whole), Ok(joined)) => whole.vars == joined.vars && whole.changes == joined.changes,
+        (Err(whole), Err(joined)) => whole == joined,
+        _ => false,
+    }
+}

@@ -1,12 +1,13 @@
 //! Samples of texts, worked out by hand: the values before each rising edge of a clock.
 
+use crate::pieces::is_read_alike;
 use psl_model::{Name, Signal};
 use std::alloc::Global;
 use std::test::Fail;
 use vcd_reader::Vcd;
 use vcd_replay::{SampleError, Trace, sample};
 
-/// The trace of one signal of a text, of 64 bits at most.
+/// The trace of one signal, of 64 bits at most, of a text that is read alike whole and in pieces.
 pub fn sampled(
     alloc: Global,
     text: &[u8],
@@ -16,7 +17,7 @@ pub fn sampled(
     width: u32,
     skip: u32,
 ) -> Result<Trace, SampleError> {
-    if width > 64 {
+    if width > 64 || !is_read_alike(alloc, text) {
         return Err(SampleError::OutOfMemory);
     }
     let Ok(vcd) = Vcd::read(alloc, text) else {
@@ -122,6 +123,49 @@ fn a_refusal_tells_the_first_that_is_wrong(rt: HostRuntime) -> Result<(), Fail> 
         let text = format!(in rt.alloc(); "{HEAD}0! b1 % #1 1! bz1 % #2 0! #3 1!")?;
         let answer = sampled(rt.alloc(), text.as_bytes(), scope, b"c", name, width, skip);
         assert_eq!(rt; refusal(answer), Some(wanted));
+    }
+    Ok(())
+}
+
+/// Digits of the vector of four bits, and the value that they are sampled as: none where a bit is x or z.
+static DIGITS: [(&str, Option<u128>); 16] = [
+    ("b0", Some(0)),
+    ("b01", Some(1)),
+    ("b1", Some(1)),
+    ("b11", Some(3)),
+    ("b101", Some(5)),
+    ("B0110", Some(6)),
+    ("b1000", Some(8)),
+    ("B1111", Some(15)),
+    ("bx", None),
+    ("bX1", None),
+    ("bz", None),
+    ("BZ10", None),
+    ("b1x", None),
+    ("b0Z01", None),
+    ("bz111", None),
+    ("Bx000", None),
+];
+
+fn sampled_digits(alloc: Global, digits: &str) -> Result<Trace, SampleError> {
+    match format!(in alloc; "{HEAD}0! {digits} % #1 1!") {
+        Ok(text) => sampled(alloc, text.as_bytes(), b"t", b"c", b"d", 4, 0),
+        Err(_) => Err(SampleError::OutOfMemory),
+    }
+}
+
+fn are_sampled_as(alloc: Global, digits: &str, value: Option<u128>) -> bool {
+    let answer = sampled_digits(alloc, digits);
+    match value {
+        Some(value) => shows(&answer, &[value]),
+        None => matches!(answer, Err(SampleError::UnknownValue { cycle: 0, .. })),
+    }
+}
+
+#[test]
+fn a_short_vector_is_extended_by_its_first_digit(rt: HostRuntime) -> Result<(), Fail> {
+    for (digits, value) in &DIGITS {
+        assert!(rt; are_sampled_as(rt.alloc(), *digits, *value), "{digits}");
     }
     Ok(())
 }
