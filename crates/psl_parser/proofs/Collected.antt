@@ -92,20 +92,15 @@ module _ {A : Type 0} where
 
   pub first_at : (f : ℕ → A) (d : A) (n k : ℕ) → k < n → slice_index_or (first_of_all f n) k d ≡ f k
   first_at f d zero k lt = absurd (omega arith)
-  first_at f d (suc n) k lt = by_test (nat_lt k n) below here
+  first_at f d (suc n) k lt =
+      by_test (nat_lt k n)
+      (λ yes. get_or_append_left (first_of_all f n) (f n ∷ []) d k (long (ltb-true k n yes))
+      ∙ first_at f d n k (ltb-true k n yes))
+      (λ no. get_or_at (first_of_all f n) (f n) [] d k (first_length f n ∙ last (ltb-false k n no))
+      ∙ ap f (last (ltb-false k n no)))
     where
       long : k < n → k < length (first_of_all f n)
       long less = subst (λ (m : ℕ). k < m) (sym (first_length f n)) less
 
-      below : nat_lt k n ≡ true → slice_index_or (first_of_all f (suc n)) k d ≡ f k
-      below yes =
-          get_or_append_left (first_of_all f n) (f n ∷ []) d k (long (ltb-true k n yes))
-          ∙ first_at f d n k (ltb-true k n yes)
-
       last : n ≤ k → n ≡ k
       last le = omega arith
-
-      here : nat_lt k n ≡ false → slice_index_or (first_of_all f (suc n)) k d ≡ f k
-      here no =
-          get_or_at (first_of_all f n) (f n) [] d k (first_length f n ∙ last (ltb-false k n no))
-          ∙ ap f (last (ltb-false k n no))

@@ -16,6 +16,7 @@ use Rattle.psl_grammar.specs.Symbols.{symbol_at}
 use Rattle.psl_grammar.specs.Units.{Known, meaning_of, bytes_of, kind_symbol, symbol_in, symbols_in, outside, no_token}
 use Rattle.psl_parser.specs.Depth.{behind, behind_all}
 use Rattle.psl_parser.specs.Seen.{is_semicolon, declared_as, way_to, item_at, ends_item, with_declared, known_before}
+use Rattle.psl_parser.specs.Seen.{seen_to}
 use Rattle.psl_parser.specs.inner.Names.{is_name_kind, Knows, AreKnown}
 use Rattle.psl_parser.specs.declared.names.Names.{Names}
 
@@ -126,3 +127,14 @@ module _ (text : List ℕ) (tokens : List Token) where
       inside =
           let long : length (symbols_in text [] tokens) ≡ length tokens = simp length-map in
           omega arith
+
+  pub seen_more : (place : ℕ) (symbols all : List Symbol) (symbol_now : Symbol) (token : Token)
+      → symbols ≡ seen_to text tokens place → token ≡ slice_index_or tokens place no_token
+      → symbol_now ≡ symbol_in text (known_before text tokens place) token → all ≡ symbols ++ symbol_now ∷ []
+      → all ≡ seen_to text tokens (place + 1)
+  seen_more place symbols all symbol_now token before token_is symbol_is all_are =
+      let next : suc place ≡ place + 1 = omega arith in
+      all_are ∙ ap (λ (l : List Symbol). l ++ symbol_now ∷ []) before
+      ∙ ap (λ (s : Symbol). seen_to text tokens place ++ s ∷ [])
+      (symbol_is ∙ ap (λ (t : Token). symbol_in text (known_before text tokens place) t) token_is)
+      ∙ ap (λ (n : ℕ). seen_to text tokens n) next

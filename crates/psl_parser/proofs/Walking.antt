@@ -307,6 +307,26 @@ module _ (symbols : List Symbol) where
         few_own = let le = at.few_own in omega arith;
       }
 
+  -- the same for what is known of the steps
+  pub moved_by : (k : ℕ) (walk next : Walk) (kept : List Phrase) (symbol : Symbol) (closer form event brace : Bool)
+      (reach : Option ℕ) → k < length symbols → IsAt symbols k walk
+      → kept ≡ go_on (sight symbols k) (phrases_at symbols k) → symbol ≡ symbol_at symbols k
+      → closer ≡ closes_event_in walk.phrases.items symbol → next.closers.items ≡ walk.closers.items ++ closer ∷ []
+      → form ≡ form_by symbols next.closers.items k → reach ≡ reach_by symbol walk.braced walk.behind form
+      → event ≡ opens_event symbols k → next.phrases.items ≡ kept ++ begun event reach
+      → next.behind ≡ behind_by symbol walk.behind form → brace ≡ is_open_brace symbol
+      → next.braced ≡ (walk.braced || brace) → (next.braces, next.own) ≡ behind (walk.braces, walk.own) symbol
+      → next.braces ≤ walk.braces + 1 → next.own ≤ walk.own + 1 → IsAt symbols (k + 1) next
+  moved_by k walk next kept symbol closer form event brace reach within at kept_is symbol_is closer_is closers_are
+      form_is_by reach_is event_is_by phrases_are behind_is brace_is braced_is item_is few few_own =
+      moved_at k walk next kept closer form reach within at kept_is
+      (closer_is ∙ ap (λ (s : Symbol). closes_event_in walk.phrases.items s) symbol_is) closers_are form_is_by
+      (reach_is ∙ ap (λ (s : Symbol). reach_by s walk.braced walk.behind form) symbol_is)
+      (phrases_are ∙ ap (λ (e : Bool). kept ++ begun e reach) event_is_by)
+      (behind_is ∙ ap (λ (s : Symbol). behind_by s walk.behind form) symbol_is)
+      (braced_is ∙ ap (λ (b : Bool). walk.braced || b) (brace_is ∙ ap (λ (s : Symbol). is_open_brace s) symbol_is))
+      (item_is ∙ ap (λ (s : Symbol). behind (walk.braces, walk.own) s) symbol_is) few few_own
+
   pub one_more : (k : ℕ) → NoneTooDeep symbols k → ¬ IsTooDeep symbols k → NoneTooDeep symbols (k + 1)
   one_more k none here = λ n lt. by_test (nat_lt n k) (λ yes. none n (ltb-true n k yes))
       λ no. subst (λ (m : ℕ). ¬ IsTooDeep symbols m) (last n lt (ltb-false n k no)) here

@@ -1,9 +1,9 @@
 //! The first token that is too deep.
 
-ghost use Rattle.std.specs.Prelude.{◌≡◌, ◌++◌, ◌∷◌, [], ◌+◌, ◌<◌, ◌≤◌, ◌↔◌, IsTrue, IfOk, IfSome, IfNone, length, true};
+ghost use Rattle.std.specs.Prelude.{◌≡◌, ◌++◌, ◌∷◌, [], ◌+◌, ◌^◌, ◌<◌, ◌≤◌, ◌↔◌, ◌||◌, IsTrue, IfOk, IfSome, IfNone, length, true};
 ghost use Rattle.psl_parser.specs.OpenPhrases.{open_phrases};
 ghost use Rattle.psl_parser.specs.Depth.{IsOneTooMany, IsTooDeep};
-ghost use Rattle.psl_parser.specs.inner.Walk.{IsAt, IsFirstOf, sight, go_on, phrases_at, begun};
+ghost use Rattle.psl_parser.specs.inner.Walk.{IsAt, IsFirstOf, sight, go_on, phrases_at, begun, form_by, closes_event_in};
 
 use crate::forms::{behind_from, ends_form, opens_event, reach_from};
 use crate::items::{behind, is_one_too_many};
@@ -99,8 +99,40 @@ fn with_begun(kept: Vec<Phrase>, event: bool, reach: Option<u32>) -> Result<Vec<
     }
 }
 
+/// Whether a token is the `)` of a `next_event` form.
+fn closer_at(walk: &Walk, symbol: Symbol) -> bool
+    ensures { result ≡ closes_event_in walk.now.phrases.items symbol }
+{
+    closes_event(&walk.phrases, symbol)
+}
+
+/// Notes whether a token is the `)` of a `next_event` form, and tells whether it ends a `next` form.
+fn noted(
+    symbols: &[Symbol],
+    closers: Vec<bool>,
+    closer: bool,
+    place: usize,
+) -> Result<(Vec<bool>, bool), AllocError>
+    requires few { place < 2 ^ 31 }
+    ensures closers { IfOk result (λ read. read.0.items ≡ closers.items ++ closer ∷ []) }
+    ensures form { IfOk result (λ read. read.1 ≡ form_by symbols.now read.0.items place) }
+{
+    match put_answer(closers, closer) {
+        Err(error) => Err(error),
+        Ok(all) => {
+            let form = ends_form(symbols, &all, place);
+            Ok((all, form))
+        }
+    }
+}
+
+fn either(one: bool, other: bool) -> bool
+    ensures { result ≡ (one || other) }
+{
+    one || other
+}
+
 /// What is carried on behind a token, where these phrases are still open.
-#[tactic(auto, using(crate::proofs::Walking::moved_at))]
 fn moved(
     symbols: &[Symbol],
     walk: Walk,
@@ -114,26 +146,24 @@ fn moved(
     ensures { IfOk result (IsAt symbols.now (place + 1)) }
 {
     let symbol = symbol_at(symbols, place);
-    let Walk {
-        phrases,
-        closers,
-        behind: was_behind,
-        braced,
-        braces,
-        own,
-    } = walk;
-    let closers = put_answer(closers, closes_event(&phrases, symbol))?;
-    let form = ends_form(symbols, &closers, place);
-    let reach = reach_from(symbol, braced, was_behind, form);
-    let phrases = with_begun(kept, opens_event(symbols, place), reach)?;
-    let (braces, own) = behind(braces, own, symbol);
+    let closer = closer_at(&walk, symbol);
+    let was_behind = walk.behind;
+    let was_braced = walk.braced;
+    let item = behind(walk.braces, walk.own, symbol);
+    let (closers, form) = noted(symbols, walk.closers, closer, place)?;
+    let reach = reach_from(symbol, was_braced, was_behind, form);
+    let event = opens_event(symbols, place);
+    let phrases = with_begun(kept, event, reach)?;
+    let brace = is_open_brace(symbol);
+    let braced = either(was_braced, brace);
+    let stands_behind = behind_from(symbol, was_behind, form);
     Ok(Walk {
         phrases,
         closers,
-        behind: behind_from(symbol, was_behind, form),
-        braced: braced || is_open_brace(symbol),
-        braces,
-        own,
+        behind: stands_behind,
+        braced,
+        braces: item.0,
+        own: item.1,
     })
 }
 

@@ -1,13 +1,13 @@
 //! What the grammar sees of each token of a text.
 
-ghost use Rattle.std.specs.Prelude.{◌≡◌, ◌∷◌, ◌++◌, [], ◌+◌, ◌<◌, ◌≤◌, ◌^◌, All, Some, length, IfOk, slice_index_or, nat_eq, true};
+ghost use Rattle.std.specs.Prelude.{◌≡◌, ◌∷◌, ◌++◌, [], ◌+◌, ◌<◌, ◌≤◌, ◌^◌, ◌&&◌, All, Some, length, IfOk, slice_index_or, nat_eq, true};
 ghost use Rattle.std.specs.Cmp.Lexicographic.{pointwise};
 ghost use Rattle.indexmap.specs.IndexMap.{Updates};
 ghost use Rattle.psl_lexer.specs.Order.{LiesWithin};
 ghost use Rattle.psl_grammar.specs.Symbols.{symbol_at, is_name};
 ghost use Rattle.psl_grammar.specs.Units.{Known, meaning_of, symbol_in, outside, no_token, bytes_of};
 ghost use Rattle.psl_parser.specs.Seen.{is_semicolon, declared_as, with_declared, known_before, seen_to, seen};
-ghost use Rattle.psl_parser.specs.inner.Names.{is_name_kind, Knows, AreKnown};
+ghost use Rattle.psl_parser.specs.inner.Names.{is_name_kind, IsPart, Knows, AreKnown};
 
 use crate::items::behind;
 use crate::marks::symbol_at;
@@ -31,7 +31,7 @@ pub struct Names {
 fn token_at(text: &[u8], tokens: &[Token], place: usize) -> Token
     requires within { All (LiesWithin text.now) tokens.now }
     ensures same { result ≡ slice_index_or tokens.now place no_token }
-    ensures within { LiesWithin text.now result }
+    ensures part { IsPart text.now result }
 {
     match tokens.get(place) {
         Some(token) => *token,
@@ -44,7 +44,7 @@ fn token_at(text: &[u8], tokens: &[Token], place: usize) -> Token
 }
 
 fn name_of(alloc: Global, text: &[u8], token: Token) -> Result<Name, AllocError>
-    requires within { LiesWithin text.now token }
+    requires part { IsPart text.now token }
     ensures { IfOk result (λ name. name ≡ bytes_of text.now token) }
 {
     Name::new(alloc, &text[token.start as usize..token.end as usize])
@@ -84,7 +84,7 @@ fn symbol_of_name(
     names: &Names,
     token: Token,
 ) -> Result<Symbol, AllocError>
-    requires within { LiesWithin text.now token }
+    requires part { IsPart text.now token }
     requires named { is_name_kind token.kind ≡ true }
     ensures { (known : Known) → Knows known names.now → IfOk result (λ symbol. symbol ≡ symbol_in text.now known token) }
 {
@@ -103,7 +103,7 @@ fn symbol_of(
     token: Token,
     plain: Symbol,
 ) -> Result<Symbol, AllocError>
-    requires within { LiesWithin text.now token }
+    requires part { IsPart text.now token }
     requires plain { plain ≡ symbol_in text.now [] token }
     ensures { (known : Known) → Knows known names.now → IfOk result (λ symbol. symbol ≡ symbol_in text.now known token) }
 {
@@ -202,6 +202,13 @@ fn with_declared(
     }
 }
 
+/// Whether a token ends an item, where so many braces are open before it.
+fn ends_item(symbol: Symbol, braces: usize) -> bool
+    ensures { result ≡ (is_semicolon symbol && nat_eq braces 1) }
+{
+    is_semicolon(symbol) && braces == 1
+}
+
 /// The names that are known behind a token.
 #[tactic(auto, using(crate::proofs::Known::declared_more, crate::proofs::Known::undeclared_more))]
 fn behind_token(
@@ -216,20 +223,18 @@ fn behind_token(
     requires within { All (LiesWithin text.now) tokens.now }
     requires plain { plain.now ≡ outside text.now tokens.now }
     requires known { AreKnown text.now tokens.now place names }
-    ensures known { IfOk result (Knows (known_before text.now tokens.now (place + 1))) }
-    ensures braces { IfOk result (λ more. more.braces ≡ names.braces) }
-    ensures own { IfOk result (λ more. more.own ≡ names.own) }
+    ensures { IfOk result (Knows (known_before text.now tokens.now (place + 1))) }
 {
-    let ends = is_semicolon(symbol_at(plain, place)) && names.braces == 1;
-    if !ends {
+    let symbol = symbol_at(plain, place);
+    if !ends_item(symbol, names.braces) {
         return Ok(names);
     }
     let first = place.saturating_sub(names.own);
-    with_declared(alloc, text, tokens, plain, names, first)
+    let more = with_declared(alloc, text, tokens, plain, names, first)?;
+    Ok(more)
 }
 
 /// What is carried on behind a token.
-#[tactic(auto, using(crate::proofs::Known::known_on))]
 fn moved(
     alloc: Global,
     text: &[u8],
@@ -245,15 +250,14 @@ fn moved(
     requires known { AreKnown text.now tokens.now place names }
     ensures { IfOk result (AreKnown text.now tokens.now (place + 1)) }
 {
-    let (braces, own) = behind(names.braces, names.own, symbol_at(plain, place));
-    match behind_token(alloc, text, tokens, plain, names, place) {
-        Err(error) => Err(error),
-        Ok(more) => Ok(Names {
-            known: more.known,
-            braces,
-            own,
-        }),
-    }
+    let symbol = symbol_at(plain, place);
+    let item = behind(names.braces, names.own, symbol);
+    let more = behind_token(alloc, text, tokens, plain, names, place)?;
+    Ok(Names {
+        known: more.known,
+        braces: item.0,
+        own: item.1,
+    })
 }
 
 fn put(symbols: Vec<Symbol>, symbol: Symbol) -> Result<Vec<Symbol>, AllocError>
@@ -285,10 +289,9 @@ fn see(
     ensures { IfOk result (λ all. all.items ≡ seen_to text.now tokens.now (place + 1)) }
 {
     let token = token_at(text, tokens, place);
-    match symbol_of(alloc, text, names, token, symbol_at(plain, place)) {
-        Err(error) => Err(error),
-        Ok(symbol) => put(symbols, symbol),
-    }
+    let symbol = symbol_of(alloc, text, names, token, symbol_at(plain, place))?;
+    let all = put(symbols, symbol)?;
+    Ok(all)
 }
 
 /// What the grammar sees of each token, where `plain` is what it sees of tokens where no name is declared.

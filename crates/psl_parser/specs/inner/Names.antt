@@ -1,5 +1,5 @@
 -- The names that are known at a token.
-use Rattle.std.specs.Prelude.{ℕ, ◌≡◌, ◌≤◌, Bool, true, false, List, nat_eq, unwrap_or}
+use Rattle.std.specs.Prelude.{ℕ, ◌≡◌, ◌≤◌, Bool, true, false, List, length, nat_eq, unwrap_or}
 use Rattle.std.specs.Cmp.Lexicographic.{pointwise}
 use Rattle.indexmap.specs.IndexMap.{get}
 use Rattle.psl_lexer.specs.declared.kinds.Kind.{Kind}
@@ -13,6 +13,10 @@ use Rattle.psl_parser.specs.declared.names.Names.{Names}
 abbrev pub is_name_kind : Kind → Bool
 is_name_kind kind.Name = true
 is_name_kind _ = false
+
+-- the bytes of a token are a part of the text
+abbrev pub IsPart : (text : List ℕ) → Token → Type 0
+IsPart text token = (token.start ≤ token.end) × (token.end ≤ length text)
 
 -- the same names have the same meanings
 abbrev pub Knows : Known → Names → Type 0

@@ -71,8 +71,8 @@ fn a_token_stands_in_64_open_phrases_at_most(rt: HostRuntime) {
         (b"{a} |-> ", b"", 64, 65, 261),
         (b"{a} |=> ", b"", 64, 65, 261),
         (b"!(", b")", 32, 33, 69),
-        (b"(always (next (", b")))", 16, 17, 69),
-        (b"(b -> next[1] ! ", b")", 16, 17, 134),
+        (b"(always (next ", b"))", 16, 17, 69),
+        (b"(b -> next[1] ! ", b")", 16, 17, 133),
     ] {
         assert!(rt; deep(rt.alloc(), opens, most, closes, None), "{opens:?}");
         assert!(rt;
@@ -82,7 +82,8 @@ fn a_token_stands_in_64_open_phrases_at_most(rt: HostRuntime) {
     }
 }
 
-// Whether no token is too deep of a unit that begins with the first bytes, has a piece 70 times, and ends with the last.
+// Whether no token is too deep of a unit that begins with the first bytes, has a piece 70 times, and ends with the
+// last.
 fn flat(alloc: Global, first: &[u8], piece: &[u8], last: &[u8]) -> bool {
     match long(alloc, first, piece, 70, last, b"") {
         Ok(text) => tells(alloc, &text, None),
