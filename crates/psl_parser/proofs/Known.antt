@@ -1,7 +1,7 @@
 -- The names that are known behind one more token, and the symbols that they make.
 use Rattle.std.proofs.Common.{◌≡◌, ℕ, zero, suc, ◌+◌, ◌-◌, ◌<◌, ◌≤◌, Bool, true, false, cond, Option, Some, None, List, []}
 use Rattle.std.proofs.Common.{◌∷◌, ◌++◌, length, fold, refl, sym, ap, subst, ◌∙◌, arith, take, nat_eq}
-use Rattle.std.proofs.lemmas.List.{length-map}
+use Rattle.std.proofs.lemmas.List.{length-map, length_push}
 use Rattle.std.proofs.lemmas.List.Sums.{fold_push}
 use Rattle.std.proofs.Math.Seq.{take-suc}
 use Rattle.std.specs.Prelude.{◌&&◌, map, unwrap_or, slice_index_or}
@@ -16,7 +16,7 @@ use Rattle.psl_grammar.specs.Symbols.{symbol_at}
 use Rattle.psl_grammar.specs.Units.{Known, meaning_of, bytes_of, kind_symbol, symbol_in, symbols_in, outside, no_token}
 use Rattle.psl_parser.specs.Depth.{behind, behind_all}
 use Rattle.psl_parser.specs.Seen.{is_semicolon, declared_as, way_to, item_at, ends_item, with_declared, known_before}
-use Rattle.psl_parser.specs.Seen.{seen_to}
+use Rattle.psl_parser.specs.Seen.{seen_at, seen_to, seen}
 use Rattle.psl_parser.specs.inner.Names.{is_name_kind, Knows, AreKnown}
 use Rattle.psl_parser.specs.declared.names.Names.{Names}
 
@@ -86,7 +86,8 @@ module _ (text : List ℕ) (tokens : List Token) where
   after : (place : ℕ) (known : Known) (more : Names) → known_before text tokens (suc place) ≡ known → Knows known more
       → Knows (known_before text tokens (place + 1)) more
   after place known more same knows =
-      subst (λ (n : ℕ). Knows (known_before text tokens n) more) (omega arith)
+      let next : suc place ≡ place + 1 = omega arith in
+      subst (λ (n : ℕ). Knows (known_before text tokens n) more) next
       (subst (λ (k : Known). Knows k more) (sym same) knows)
 
   pub declared_more : (place : ℕ) (names more : Names) → AreKnown text tokens place names
@@ -102,6 +103,19 @@ module _ (text : List ℕ) (tokens : List Token) where
       (declared_as (symbol_at (outside text tokens) n)) (known_before text tokens place)) more)
       (first_is place names at) knows)
 
+  -- the same for what is known of the steps
+  pub declared_known : (place : ℕ) (names more : Names) (symbol_now : Symbol) (first : ℕ)
+      → symbol_now ≡ symbol_at (outside text tokens) place → first ≡ place - names.own
+      → AreKnown text tokens place names → (is_semicolon symbol_now && nat_eq names.braces 1) ≡ true
+      → Knows (with_declared text tokens first (declared_as (symbol_at (outside text tokens) first))
+      (known_before text tokens place)) more
+      → Knows (known_before text tokens (place + 1)) more
+  declared_known place names more symbol_now first symbol_is first_at at ends knows =
+      declared_more place names more at
+      (ap (λ (s : Symbol). is_semicolon s && nat_eq names.braces 1) (sym symbol_is) ∙ ends)
+      (subst (λ (n : ℕ). Knows (with_declared text tokens n
+      (declared_as (symbol_at (outside text tokens) n)) (known_before text tokens place)) more) first_at knows)
+
   pub undeclared_more : (place : ℕ) (names : Names) → AreKnown text tokens place names
       → (is_semicolon (symbol_at (outside text tokens) place) && nat_eq names.braces 1) ≡ false
       → Knows (known_before text tokens (place + 1)) names
@@ -113,16 +127,19 @@ module _ (text : List ℕ) (tokens : List Token) where
       → Knows (known_before text tokens (place + 1)) more → next.known ≡ more.known
       → (next.braces, next.own) ≡ behind (names.braces, names.own) (symbol_at (outside text tokens) place)
       → next.braces ≤ names.braces + 1 → next.own ≤ names.own + 1 → AreKnown text tokens (place + 1) next
-  known_on place names more next within at knows same way few few_own = record {
+  known_on place names more following within at knows same way few few_own = record {
     known = λ name. ap (λ m. unwrap_or (get (pointwise nat_eq) m name) symbol.Name) same ∙ knows name;
     way = way ∙ ap (λ (w : ℕ × ℕ). behind w (symbol_at (outside text tokens) place)) at.way
         ∙ sym (fold_push behind (0, 0) (take place (outside text tokens)) (symbol_at (outside text tokens) place))
         ∙ ap (λ (l : List Symbol). behind_all l) (sym (take-suc (outside text tokens) place symbol.End inside))
-        ∙ ap (λ (n : ℕ). way_to text tokens n) (omega arith);
+        ∙ ap (λ (n : ℕ). way_to text tokens n) next;
     few = let le = at.few in omega arith;
     few_own = let le = at.few_own in omega arith;
   }
     where
+      next : suc place ≡ place + 1
+      next = omega arith
+
       inside : place < length (outside text tokens)
       inside =
           let long : length (symbols_in text [] tokens) ≡ length tokens = simp length-map in
@@ -138,3 +155,12 @@ module _ (text : List ℕ) (tokens : List Token) where
       ∙ ap (λ (s : Symbol). seen_to text tokens place ++ s ∷ [])
       (symbol_is ∙ ap (λ (t : Token). symbol_in text (known_before text tokens place) t) token_is)
       ∙ ap (λ (n : ℕ). seen_to text tokens n) next
+
+  seen_to_length : (n : ℕ) → length (seen_to text tokens n) ≡ n
+  seen_to_length zero = refl
+  seen_to_length (suc n) =
+      let more : n + 1 ≡ suc n = omega arith in
+      length_push (seen_to text tokens n) (seen_at text tokens n) ∙ ap (λ (m : ℕ). m + 1) (seen_to_length n) ∙ more
+
+  pub seen_length : (symbols : List Symbol) → symbols ≡ seen text tokens → length symbols ≡ length tokens
+  seen_length symbols same = ap (λ (l : List Symbol). length l) same ∙ seen_to_length (length tokens)

@@ -4,7 +4,7 @@ use Rattle.std.proofs.Common.{◌∷◌, ◌++◌, length, fold, refl, sym, ap, 
 use Rattle.std.proofs.lemmas.Bool.{ltb-true, ltb-false}
 use Rattle.std.proofs.lemmas.List.Sums.{fold_push}
 use Rattle.std.proofs.Math.Seq.{take-suc}
-use Rattle.std.specs.Prelude.{All, not, ◌&&◌, ◌||◌, nat_eq, nat_lt, is_some, count_by, slice_index_or}
+use Rattle.std.specs.Prelude.{All, not, ◌&&◌, ◌||◌, nat_eq, nat_lt, is_some, IfSome, count_by, slice_index_or}
 use Rattle.psl_grammar.specs.declared.symbols.Symbol.{Symbol}
 use Rattle.psl_grammar.specs.declared.symbols.Symbol.TheVariants.{End, OpenParenthesis, CloseParenthesis}
 use Rattle.psl_grammar.specs.Symbols.{symbol_at, joins_sequences}
@@ -14,13 +14,15 @@ use Rattle.psl_parser.specs.Marks.{is_open_parenthesis, is_close_parenthesis, is
 use Rattle.psl_parser.specs.OpenPhrases.{opened, closed, is_bare, closes_round, opens_event, closes_event, is_head}
 use Rattle.psl_parser.specs.OpenPhrases.{ends_form, is_count, is_range, is_behind, behind_by, reach_by, reach_of}
 use Rattle.psl_parser.specs.OpenPhrases.{questions, colons, ends, stands_by, stands_in, open_phrases}
-use Rattle.psl_parser.specs.Depth.{behind, behind_all, IsTooDeep, NoneTooDeep}
+use Rattle.psl_parser.specs.Depth.{behind, behind_all, IsOneTooMany, IsTooDeep, NoneTooDeep}
+use Rattle.psl_parser.specs.Depth.{IsFirstTooDeep}
+use Rattle.psl_parser.specs.declared.depth.Deep.{Deep}
 use Rattle.psl_parser.specs.declared.phrases.Phrase.{Phrase}
 use Rattle.psl_parser.specs.declared.phrases.Sight.{Sight}
 use Rattle.psl_parser.specs.declared.depth.Walk.{Walk}
 use Rattle.psl_parser.specs.inner.Walk.{IsSmall, ends_phrase, passed, go_on, is_event_phrase, closes_event_in, begun}
 use Rattle.psl_parser.specs.inner.Walk.{sight_by, sight, phrase, phrase_by, phrase_at, head_by, form_by, listed, collect}
-use Rattle.psl_parser.specs.inner.Walk.{first_of_all, phrases_at, IsAt}
+use Rattle.psl_parser.specs.inner.Walk.{first_of_all, phrases_at, IsAt, IsFirstOf}
 use Rattle.psl_parser.proofs.Tests.{by_test, closes_alone, none_or, event_order, never_event}
 use Rattle.psl_parser.proofs.Counted.{count_more, none_more, count_none, none_none, count_small, count_same, none_same}
 use Rattle.psl_parser.proofs.Collected.{gone, collect_gone, collect_length, passes, collect_count, collect_all, first_at}
@@ -326,6 +328,14 @@ module _ (symbols : List Symbol) where
       (behind_is ∙ ap (λ (s : Symbol). behind_by s walk.behind form) symbol_is)
       (braced_is ∙ ap (λ (b : Bool). walk.braced || b) (brace_is ∙ ap (λ (s : Symbol). is_open_brace s) symbol_is))
       (item_is ∙ ap (λ (s : Symbol). behind (walk.braces, walk.own) s) symbol_is) few few_own
+
+  pub first_of : (k : ℕ) (o : Option Deep) → is_some o ≡ true → NoneTooDeep symbols k
+      → IfSome o (λ d. IsTooDeep symbols k) → IfSome o (λ d. d.token ≡ k)
+      → IfSome o (λ d. d.item ≡ true → IsOneTooMany symbols k) → IsFirstOf symbols o
+  first_of k None some none deep token item = absurd (cc)
+  first_of k (Some d) some none deep token item =
+      subst (λ (n : ℕ). IsFirstTooDeep symbols n × (d.item ≡ true → IsOneTooMany symbols n)) (sym token)
+      ((deep, none), item)
 
   pub one_more : (k : ℕ) → NoneTooDeep symbols k → ¬ IsTooDeep symbols k → NoneTooDeep symbols (k + 1)
   one_more k none here = λ n lt. by_test (nat_lt n k) (λ yes. none n (ltb-true n k yes))

@@ -55,9 +55,9 @@ IsFirstTooDeep symbols place = IsTooDeep symbols place × NoneTooDeep symbols pl
 abbrev pub IsDepth : List Symbol → (place : ℕ) → Type 0
 IsDepth symbols place = IsTrue (may_begin (symbol_at symbols place)) ⊎ IsOneTooMany symbols place
 
--- A fault of depth is told of the first token that is too deep. Where that token stands in 65 open phrases, the last of
--- them begins with it, and if no phrase begins with such a symbol, the fault is one of syntax. A fault of syntax is told
--- of a token, or of the end behind the last, and no token before it is too deep.
+-- A fault of depth is told of the first token that is too deep. Where that token stands in 65 open phrases, the last
+-- of them begins with it, and if no phrase begins with such a symbol, the fault is one of syntax. A fault of syntax is
+-- told of a token, or of the end behind the last, and no token before it is too deep.
 abbrev pub IsToldRightly : List Symbol → ParseError → Type 0
 IsToldRightly symbols (TooDeep token) = IsFirstTooDeep symbols token × IsDepth symbols token
 IsToldRightly symbols (Syntax token) = (token ≤ length symbols) × NoneTooDeep symbols token

@@ -18,8 +18,8 @@ behind_by before behind form = cond (is_exclamation before) behind (ends_operand
 
 -- How loosely tokens may be joined in the phrase that a token opens, none where it opens none: 0 in the operand of a
 -- prefix operator, 10 in the right side of a `?`, 11 in the operand of a `next` form, 13 in the right side of a `|->`,
--- 14 in that of a `->` and in the operand of `always`, 15 in brackets. It is told by the token, by whether there is a `{`
--- before it, by whether it stands behind an operand, and by whether it ends a `next` form.
+-- 14 in that of a `->` and in the operand of `always`, 15 in brackets. It is told by the token, by whether there is a
+-- `{` before it, by whether it stands behind an operand, and by whether it ends a `next` form.
 abbrev pub reach_by : Symbol → (braced behind form : Bool) → Option ℕ
 reach_by OpenParenthesis braced behind form = Some 15
 reach_by OpenBrace braced behind form = cond braced (Some 15) None
@@ -86,8 +86,8 @@ module _ (symbols : List Symbol) where
 
   -- ---- phrases
 
-  -- Whether a token stands behind an operand: a `!` is part of the operand that it stands behind, and a mark that may be
-  -- a prefix operator is one where it stands behind none.
+  -- Whether a token stands behind an operand: a `!` is part of the operand that it stands behind, and a mark that may
+  -- be a prefix operator is one where it stands behind none.
   abbrev pub is_behind : ℕ → Bool
   is_behind zero = false
   is_behind (suc i) = behind_by (symbol_at symbols i) (is_behind i) (ends_form i)
@@ -104,8 +104,8 @@ module _ (symbols : List Symbol) where
   abbrev pub colons : (behind place : ℕ) → ℕ
   colons behind place = count_in (λ n. is_bare behind n && is_colon (symbol_at symbols n)) (suc behind) place
 
-  -- Whether a token behind an operand joins too loosely for a phrase. In the right side of a `?` one `:` stands more than
-  -- there are `?` in it: the next is too many.
+  -- Whether a token behind an operand joins too loosely for a phrase. In the right side of a `?` one `:` stands more
+  -- than there are `?` in it: the next is too many.
   abbrev pub is_beyond : (reach opener place : ℕ) → Bool
   is_beyond reach opener place = cond (nat_eq reach 10 && is_colon (symbol_at symbols place))
       (nat_lt (questions opener place) (colons opener place)) (nat_lt reach (looseness symbols place))

@@ -1,9 +1,11 @@
 //! The first token that is too deep.
 
-ghost use Rattle.std.specs.Prelude.{◌≡◌, ◌++◌, ◌∷◌, [], ◌+◌, ◌^◌, ◌<◌, ◌≤◌, ◌↔◌, ◌||◌, IsTrue, IfOk, IfSome, IfNone, length, true};
+ghost use Rattle.std.specs.Prelude.{◌≡◌, ◌++◌, ◌∷◌, [], ◌+◌, ◌^◌, ◌<◌, ◌≤◌, ◌↔◌, ◌||◌, IsTrue};
+ghost use Rattle.std.specs.Prelude.{IfOk, IfSome, IfNone, length, true};
 ghost use Rattle.psl_parser.specs.OpenPhrases.{open_phrases};
 ghost use Rattle.psl_parser.specs.Depth.{IsOneTooMany, IsTooDeep};
-ghost use Rattle.psl_parser.specs.inner.Walk.{IsAt, IsFirstOf, sight, go_on, phrases_at, begun, form_by, closes_event_in};
+ghost use Rattle.psl_parser.specs.inner.Walk.{IsAt, IsFirstOf, sight, go_on, phrases_at, begun, form_by};
+ghost use Rattle.psl_parser.specs.inner.Walk.{closes_event_in};
 
 use crate::forms::{behind_from, ends_form, opens_event, reach_from};
 use crate::items::{behind, is_one_too_many};
@@ -63,7 +65,10 @@ fn put_answer(answers: Vec<bool>, answer: bool) -> Result<Vec<bool>, AllocError>
 }
 
 /// The phrases that are open before a token and behind it.
-#[tactic(auto, using(crate::proofs::Walking::went_on, crate::proofs::Walking::open_is, crate::proofs::Walking::walk_small))]
+#[tactic(
+    auto,
+    using(crate::proofs::Walking::went_on, crate::proofs::Walking::open_is, crate::proofs::Walking::walk_small)
+)]
 fn still_open(
     alloc: Global,
     symbols: &[Symbol],

@@ -1,6 +1,7 @@
 //! What the grammar sees of each token of a text.
 
-ghost use Rattle.std.specs.Prelude.{◌≡◌, ◌∷◌, ◌++◌, [], ◌+◌, ◌<◌, ◌≤◌, ◌^◌, ◌&&◌, All, Some, length, IfOk, slice_index_or, nat_eq, true};
+ghost use Rattle.std.specs.Prelude.{◌≡◌, ◌∷◌, ◌++◌, [], ◌+◌, ◌<◌, ◌≤◌, ◌^◌, ◌&&◌, All};
+ghost use Rattle.std.specs.Prelude.{Some, length, IfOk, slice_index_or, nat_eq, true};
 ghost use Rattle.std.specs.Cmp.Lexicographic.{pointwise};
 ghost use Rattle.indexmap.specs.IndexMap.{Updates};
 ghost use Rattle.psl_lexer.specs.Order.{LiesWithin};
@@ -86,7 +87,8 @@ fn symbol_of_name(
 ) -> Result<Symbol, AllocError>
     requires part { IsPart text.now token }
     requires named { is_name_kind token.kind ≡ true }
-    ensures { (known : Known) → Knows known names.now → IfOk result (λ symbol. symbol ≡ symbol_in text.now known token) }
+    ensures { (known : Known) → Knows known names.now
+        → IfOk result (λ symbol. symbol ≡ symbol_in text.now known token) }
 {
     match name_of(alloc, text, token) {
         Err(error) => Err(error),
@@ -105,7 +107,8 @@ fn symbol_of(
 ) -> Result<Symbol, AllocError>
     requires part { IsPart text.now token }
     requires plain { plain ≡ symbol_in text.now [] token }
-    ensures { (known : Known) → Knows known names.now → IfOk result (λ symbol. symbol ≡ symbol_in text.now known token) }
+    ensures { (known : Known) → Knows known names.now
+        → IfOk result (λ symbol. symbol ≡ symbol_in text.now known token) }
 {
     if is_name_token(token) {
         return symbol_of_name(alloc, text, names, token);
@@ -154,7 +157,6 @@ fn put_name(
 }
 
 /// A name gets a meaning, also where it had another.
-#[tactic(auto, using(crate::proofs::Known::knows_more))]
 fn learn(names: Names, name: Name, meaning: Symbol) -> Result<Names, AllocError>
     ensures known { (known : Known) → Knows known names → IfOk result (Knows ((name, meaning) ∷ known)) }
     ensures braces { IfOk result (λ more. more.braces ≡ names.braces) }

@@ -84,7 +84,8 @@ fn symbols_of(alloc: Global, text: &[u8], tokens: &[Token]) -> Result<Vec<Symbol
     ensures many { IfOk result (λ symbols. length symbols.items ≡ length tokens.now) }
 {
     let plain = classify(alloc, tokens)?;
-    seen(alloc, text, tokens, &plain)
+    let symbols = seen(alloc, text, tokens, &plain)?;
+    Ok(symbols)
 }
 
 /// A fault as it is told.
@@ -135,9 +136,10 @@ pub fn first_too_deep(
     }
 }
 
-/// The unit that the tokens of a text are, exactly where they are one. Else `TooDeep` with the first token that stands in
-/// too many open phrases or is one too many of an item, where the parser read up to it, and `Syntax` otherwise, with the
-/// number of the token at which it stopped. `OutOfMemory` where memory was refused: then nothing is said of the tokens.
+/// The unit that the tokens of a text are, exactly where they are one. Else `TooDeep` with the first token that stands
+/// in too many open phrases or is one too many of an item, where the parser read up to it, and `Syntax` otherwise, with
+/// the number of the token at which it stopped. `OutOfMemory` where memory was refused: then nothing is said of the
+/// tokens.
 pub fn parse_unit(alloc: Global, text: &[u8], tokens: &[Token]) -> Result<RawUnit, ParseError>
     requires few { length tokens.now ≤ 1048576 }
     requires within { All (LiesWithin text.now) tokens.now }
