@@ -1,15 +1,15 @@
 -- What is carried along is right behind one more token.
-use Rattle.std.proofs.Common.{◌≡◌, ℕ, zero, suc, ◌+◌, ◌-◌, ◌<◌, ◌≤◌, Bool, true, false, cond, Option, Some, None, List, []}
-use Rattle.std.proofs.Common.{◌∷◌, ◌++◌, length, fold, refl, sym, ap, subst, ◌∙◌, arith, take}
+use Rattle.std.proofs.Common.{◌≡◌, ℕ, suc, ◌+◌, ◌-◌, ◌<◌, ◌≤◌, Bool, true, false, cond, Option, Some, None, List, []}
+use Rattle.std.proofs.Common.{◌∷◌, ◌++◌, length, refl, sym, ap, subst, ◌∙◌, arith, take}
 use Rattle.std.proofs.lemmas.Bool.{ltb-true, ltb-false}
 use Rattle.std.proofs.lemmas.List.Sums.{fold_push}
 use Rattle.std.proofs.Math.Seq.{take-suc}
-use Rattle.std.specs.Prelude.{All, not, ◌&&◌, ◌||◌, nat_eq, nat_lt, is_some, IfSome, count_by, slice_index_or}
+use Rattle.std.specs.Prelude.{All, not, ◌&&◌, ◌||◌, nat_lt, is_some, IfSome, count_by, slice_index_or}
 use Rattle.psl_grammar.specs.declared.symbols.Symbol.{Symbol}
 use Rattle.psl_grammar.specs.declared.symbols.Symbol.TheVariants.{End, OpenParenthesis, CloseParenthesis}
 use Rattle.psl_grammar.specs.Symbols.{symbol_at, joins_sequences}
 use Rattle.psl_parser.specs.Places.{count_in, none_in}
-use Rattle.psl_parser.specs.Marks.{opens_bracket, closes_bracket, loose, looseness, is_open_brace, is_colon, is_question}
+use Rattle.psl_parser.specs.Marks.{opens_bracket, closes_bracket, loose, is_open_brace, is_colon, is_question}
 use Rattle.psl_parser.specs.Marks.{is_open_parenthesis, is_close_parenthesis, is_next, is_event}
 use Rattle.psl_parser.specs.OpenPhrases.{opened, closed, is_bare, closes_round, opens_event, closes_event, is_head}
 use Rattle.psl_parser.specs.OpenPhrases.{ends_form, is_count, is_range, is_behind, behind_by, reach_by, reach_of}

@@ -1,5 +1,5 @@
 -- What symbols do to the phrases that are open where they stand.
-use Rattle.std.specs.Prelude.{ℕ, ◌+◌, Bool, true, false, cond, List}
+use Rattle.std.specs.Prelude.{ℕ, Bool, true, false, cond, List}
 use Rattle.psl_grammar.specs.declared.symbols.Symbol.{Symbol}
 use Rattle.psl_grammar.specs.declared.symbols.Symbol.TheVariants.{Name, SequenceName, PropertyName, Number, Literal}
 use Rattle.psl_grammar.specs.declared.symbols.Symbol.TheVariants.{OpenParenthesis, CloseParenthesis, OpenBracket}

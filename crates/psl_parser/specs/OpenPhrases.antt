@@ -1,6 +1,6 @@
 -- In which open phrases a token stands, told by symbols alone. A token stands in the phrase that an earlier one opens
 -- where no token behind that one, up to and with the token itself, ends the phrase.
-use Rattle.std.specs.Prelude.{ℕ, zero, suc, ◌+◌, ◌-◌, Bool, true, false, cond, not, ◌&&◌, ◌||◌, nat_eq, nat_lt, List}
+use Rattle.std.specs.Prelude.{ℕ, zero, suc, ◌+◌, ◌-◌, Bool, false, cond, not, ◌&&◌, ◌||◌, nat_eq, nat_lt, List}
 use Rattle.std.specs.Prelude.{Option, Some, None}
 use Rattle.psl_grammar.specs.declared.symbols.Symbol.{Symbol}
 use Rattle.psl_grammar.specs.declared.symbols.Symbol.TheVariants.{OpenParenthesis, OpenBrace, Always, EventuallyStrong}

@@ -65,10 +65,7 @@ fn put_answer(answers: Vec<bool>, answer: bool) -> Result<Vec<bool>, AllocError>
 }
 
 /// The phrases that are open before a token and behind it.
-#[tactic(
-    auto,
-    using(crate::proofs::Walking::went_on, crate::proofs::Walking::open_is, crate::proofs::Walking::walk_small)
-)]
+#[tactic(auto, using(crate::proofs::Walking::went_on, crate::proofs::Walking::open_is, crate::proofs::Walking::walk_small))]
 fn still_open(
     alloc: Global,
     symbols: &[Symbol],

@@ -1,9 +1,7 @@
-use Rattle.std.proofs.Common.{◌≡◌, sym, ap, ◌∙◌, Bool, true, List, nat_eq}
-use Rattle.std.specs.Prelude.{◌&&◌}
+use Rattle.std.proofs.Common.{sym, ap, ◌∙◌, List}
 use Rattle.psl_grammar.specs.declared.symbols.Symbol.{Symbol}
 use Rattle.psl_grammar.specs.Symbols.{symbol_at}
-use Rattle.psl_grammar.specs.Units.{outside}
-use Rattle.psl_parser.specs.Seen.{is_semicolon, declared_as, with_declared, known_before}
+use Rattle.psl_parser.specs.Seen.{known_before}
 use Rattle.psl_parser.proofs.Known.{declared_known}
 use Rattle.psl_parser.proofs.names.behind_token.Goals as goal
 

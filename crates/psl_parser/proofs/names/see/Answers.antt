@@ -1,4 +1,3 @@
-use Rattle.psl_grammar.specs.Units.{no_token}
 use Rattle.psl_parser.specs.Seen.{known_before}
 use Rattle.psl_parser.proofs.Known.{seen_more}
 use Rattle.psl_parser.proofs.names.see.Goals as goal
