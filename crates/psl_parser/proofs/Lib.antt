@@ -1,1 +1,5 @@
-pub mod Told
+pub mod Tests
+pub mod Counted
+pub mod Collected
+pub mod Walking
+pub mod Known

@@ -1,66 +1,14 @@
--- Where a fault may be told. A token that is too deep is one of the text. The first one that stands in 65 open phrases
--- begins a phrase and has as many tokens before it that opened them, besides the `{` of the unit; the other is the
--- 2,049th of an item other than `wire`. A fault of syntax is at a token, or at the end of the text.
+-- Which tokens are too deep: those that stand in 65 open phrases, and the 2,049th of an item other than `wire`.
 use Rattle.std.specs.Prelude.{ℕ, ◌≡◌, ◌+◌, ◌-◌, ◌<◌, ◌≤◌, ◌⊎◌, nat_eq, Bool, true, false, cond, List, length, fold}
-use Rattle.std.specs.Prelude.{slice_range, count_by, IsTrue}
+use Rattle.std.specs.Prelude.{take, IsTrue}
 use Rattle.psl_grammar.specs.declared.symbols.Symbol.{Symbol}
-use Rattle.psl_grammar.specs.declared.symbols.Symbol.TheVariants.{OpenParenthesis, OpenBrace, Exclamation, Tilde, And}
-use Rattle.psl_grammar.specs.declared.symbols.Symbol.TheVariants.{Caret, Or, Always, EventuallyStrong, Next}
-use Rattle.psl_grammar.specs.declared.symbols.Symbol.TheVariants.{NextRange, Event, EventRange, Question, Arrow, Suffix}
-use Rattle.psl_grammar.specs.declared.symbols.Symbol.TheVariants.{Name, SequenceName, PropertyName, Number, Literal}
-use Rattle.psl_grammar.specs.declared.symbols.Symbol.TheVariants.{RepeatOpen, RepeatPlus, CloseBrace, Semicolon, Wire}
+use Rattle.psl_grammar.specs.declared.symbols.Symbol.TheVariants.{OpenBrace, CloseBrace, Semicolon, Wire}
 use Rattle.psl_grammar.specs.Symbols.{symbol_at}
 use Rattle.psl_grammar.specs.ItemGrammar.{open_phrases_limit, item_limit}
 use Rattle.unit_reader.specs.declared.errors.ParseError.{ParseError}
 use Rattle.unit_reader.specs.declared.errors.ParseError.TheVariants.{Syntax, TooDeep, OutOfMemory}
-
--- the symbols that open a phrase in some place
-abbrev pub may_open : Symbol → Bool
-may_open OpenParenthesis = true
-may_open OpenBrace = true
-may_open Exclamation = true
-may_open Tilde = true
-may_open And = true
-may_open Caret = true
-may_open Or = true
-may_open Always = true
-may_open EventuallyStrong = true
-may_open Next = true
-may_open NextRange = true
-may_open Event = true
-may_open EventRange = true
-may_open Question = true
-may_open Arrow = true
-may_open Suffix = true
-may_open _ = false
-
--- how many tokens before a place may open a phrase
-abbrev pub openers : List Symbol → (place : ℕ) → ℕ
-openers symbols place = count_by may_open (slice_range symbols 0 place)
-
--- the symbols that a phrase begins with in some place: one that none begins with is at fault itself
-abbrev pub may_begin : Symbol → Bool
-may_begin Name = true
-may_begin SequenceName = true
-may_begin PropertyName = true
-may_begin Number = true
-may_begin Literal = true
-may_begin RepeatOpen = true
-may_begin RepeatPlus = true
-may_begin OpenParenthesis = true
-may_begin OpenBrace = true
-may_begin Exclamation = true
-may_begin Tilde = true
-may_begin And = true
-may_begin Caret = true
-may_begin Or = true
-may_begin Always = true
-may_begin EventuallyStrong = true
-may_begin Next = true
-may_begin NextRange = true
-may_begin Event = true
-may_begin EventRange = true
-may_begin _ = false
+use Rattle.psl_parser.specs.Marks.{may_begin}
+use Rattle.psl_parser.specs.OpenPhrases.{open_phrases}
 
 -- an item begins behind the `{` of the unit, and behind a `;` in no other braces: here so many were open before
 abbrev pub begins_item : (braces : ℕ) → Symbol → Bool
@@ -91,15 +39,26 @@ is_wire _ = false
 -- the first token of the item is not `wire`
 abbrev pub IsOneTooMany : List Symbol → (place : ℕ) → Type 0
 IsOneTooMany symbols place =
-    IsItemFull (behind_all (slice_range symbols 0 place)) × (is_wire (symbol_at symbols (place - item_limit)) ≡ false)
+    IsItemFull (behind_all (take place symbols)) × (is_wire (symbol_at symbols (place - item_limit)) ≡ false)
 
-abbrev pub MayBeTooDeep : List Symbol → (place : ℕ) → Type 0
-MayBeTooDeep symbols place =
-    (place < length symbols) × ((IsTrue (may_begin (symbol_at symbols place))
-    × (open_phrases_limit + 1 < openers symbols place)) ⊎ IsOneTooMany symbols place)
+abbrev pub IsTooDeep : List Symbol → (place : ℕ) → Type 0
+IsTooDeep symbols place =
+    (place < length symbols) × ((open_phrases_limit < open_phrases symbols place) ⊎ IsOneTooMany symbols place)
 
--- a fault of depth is told of a token that may be too deep, and one of syntax of a token or of the end behind the last
+abbrev pub NoneTooDeep : List Symbol → (to : ℕ) → Type 0
+NoneTooDeep symbols to = (n : ℕ) → n < to → ¬ IsTooDeep symbols n
+
+abbrev pub IsFirstTooDeep : List Symbol → (place : ℕ) → Type 0
+IsFirstTooDeep symbols place = IsTooDeep symbols place × NoneTooDeep symbols place
+
+-- the token may begin a phrase, or is one too many of its item
+abbrev pub IsDepth : List Symbol → (place : ℕ) → Type 0
+IsDepth symbols place = IsTrue (may_begin (symbol_at symbols place)) ⊎ IsOneTooMany symbols place
+
+-- A fault of depth is told of the first token that is too deep. Where that token stands in 65 open phrases, the last
+-- of them begins with it, and if no phrase begins with such a symbol, the fault is one of syntax. A fault of syntax is
+-- told of a token, or of the end behind the last, and no token before it is too deep.
 abbrev pub IsToldRightly : List Symbol → ParseError → Type 0
-IsToldRightly symbols (TooDeep token) = MayBeTooDeep symbols token
-IsToldRightly symbols (Syntax token) = token ≤ length symbols
+IsToldRightly symbols (TooDeep token) = IsFirstTooDeep symbols token × IsDepth symbols token
+IsToldRightly symbols (Syntax token) = (token ≤ length symbols) × NoneTooDeep symbols token
 IsToldRightly symbols OutOfMemory = Unit {0}

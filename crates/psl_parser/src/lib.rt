@@ -2,7 +2,12 @@
 #![tactic(auto)]
 
 mod depth;
+mod forms;
+mod items;
+mod marks;
+mod names;
 mod parsing;
+mod phrases;
 
-pub use parsing::parse_unit;
+pub use parsing::{first_too_deep, parse_unit};
 pub use unit_reader::ParseError;

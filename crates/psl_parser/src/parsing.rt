@@ -1,17 +1,21 @@
 //! The call that parses a unit.
 
-ghost use Rattle.std.specs.Prelude.{◌≡◌, ◌≤◌, All, length, IfOk, IfErr, MatchResult};
+ghost use Rattle.std.specs.Prelude.{◌≡◌, ◌≤◌, All, length, IfOk, IfErr, IfSome, IfNone, MatchResult, IsSomeAnd, IsNone, Some};
 ghost use Rattle.psl_grammar.specs.RawUnit as raw;
 ghost use Rattle.psl_grammar.specs.UnitView.{unit_of};
-ghost use Rattle.psl_grammar.specs.Units.{outside, IsUnit};
+ghost use Rattle.psl_grammar.specs.Units.{IsUnit};
 ghost use Rattle.psl_lexer.specs.Order.{LiesWithin};
-ghost use Rattle.psl_parser.specs.Depth.{IsToldRightly};
+ghost use Rattle.psl_parser.specs.Depth.{NoneTooDeep, IsFirstTooDeep, IsToldRightly};
+ghost use Rattle.psl_parser.specs.inner.Walk.{IsFirstOf};
+ghost use Rattle.psl_parser.specs.Seen.{seen};
 ghost use Rattle.unit_reader.specs.declared.errors.ParseError.TheVariants.{OutOfMemory};
 
-use crate::depth::may_be_too_deep;
+use crate::depth::{Deep, first_deep};
+use crate::marks::{may_begin, symbol_at};
+use crate::names::seen;
 use psl_grammar::{RawUnit, Symbol};
 use psl_lexer::Token;
-use std::alloc::Global;
+use std::alloc::{AllocError, Global};
 use unit_reader::{ParseError, classify, read_unit};
 
 /// The number of a token, or the count of the tokens for the end behind them.
@@ -24,54 +28,125 @@ fn token_or_end(token: u32, count: usize) -> u32
     count as u32
 }
 
-/// A fault of depth at a token, or one of syntax where the token can't be too deep.
-fn fault_at(symbols: &[Symbol], token: u32) -> ParseError
+/// A fault at the first token that is too deep: one of syntax where no phrase begins with it.
+fn fault_at(symbols: &[Symbol], deep: Deep) -> ParseError
+    requires first { IsFirstOf symbols.now (Some deep) }
     ensures { IsToldRightly symbols.now result }
 {
-    if may_be_too_deep(symbols, token) {
+    let Deep { token, item } = deep;
+    if item || may_begin(symbol_at(symbols, token as usize)) {
         return ParseError::TooDeep { token };
     }
-    ParseError::Syntax {
-        token: token_or_end(token, symbols.len()),
-    }
+    ParseError::Syntax { token }
 }
 
-/// The same for the tokens of a text.
-#[tactic(auto, using(crate::proofs::Told::told_as))]
-fn told_at(alloc: Global, text: &[u8], tokens: &[Token], token: u32) -> ParseError
-    ensures { IsToldRightly (outside text.now tokens.now) result }
+/// A fault of syntax at a token or at the end, unless a token before it is too deep.
+fn syntax_at(symbols: &[Symbol], first: Option<Deep>, token: u32) -> ParseError
+    requires first { IsFirstOf symbols.now first }
+    ensures { IsToldRightly symbols.now result }
 {
-    match classify(alloc, tokens) {
-        Err(_) => ParseError::OutOfMemory,
-        Ok(symbols) => fault_at(&symbols, token),
+    let token = token_or_end(token, symbols.len());
+    match first {
+        Some(deep) if deep.token < token => fault_at(symbols, deep),
+        _ => ParseError::Syntax { token },
     }
 }
 
-/// A fault as it is told.
-#[tactic(auto, using(crate::proofs::Told::end_told))]
-fn told(alloc: Global, text: &[u8], tokens: &[Token], error: ParseError) -> ParseError
+/// A fault of depth at a token, or one of syntax where none up to it is too deep.
+fn depth_at(symbols: &[Symbol], first: Option<Deep>, token: u32) -> ParseError
+    requires first { IsFirstOf symbols.now first }
+    ensures { IsToldRightly symbols.now result }
+{
+    match first {
+        Some(deep) if deep.token <= token => fault_at(symbols, deep),
+        _ => syntax_at(symbols, first, token),
+    }
+}
+
+/// A fault as it is told, where the first token that is too deep is known.
+fn told_by(symbols: &[Symbol], first: Option<Deep>, error: ParseError) -> ParseError
+    requires first { IsFirstOf symbols.now first }
     ensures memory { error ≡ OutOfMemory → result ≡ OutOfMemory }
-    ensures deep { IsToldRightly (outside text.now tokens.now) result }
+    ensures told { IsToldRightly symbols.now result }
 {
     match error {
-        ParseError::TooDeep { token } => told_at(alloc, text, tokens, token),
-        ParseError::Syntax { token } => ParseError::Syntax {
-            token: token_or_end(token, tokens.len()),
-        },
+        ParseError::Syntax { token } => syntax_at(symbols, first, token),
+        ParseError::TooDeep { token } => depth_at(symbols, first, token),
         ParseError::OutOfMemory => ParseError::OutOfMemory,
     }
 }
 
-/// The unit that the tokens of a text are, exactly where they are one. Else `TooDeep` where the parser met a token that
-/// stands in too many open phrases or is one too many of an item, and `Syntax` otherwise, with the number of the token
-/// at which it stopped. `OutOfMemory` where memory was refused: then nothing is said of the tokens.
+/// What the grammar sees of each token.
+fn symbols_of(alloc: Global, text: &[u8], tokens: &[Token]) -> Result<Vec<Symbol>, AllocError>
+    requires few { length tokens.now ≤ 1048576 }
+    requires within { All (LiesWithin text.now) tokens.now }
+    ensures seen { IfOk result (λ symbols. symbols.items ≡ seen text.now tokens.now) }
+    ensures many { IfOk result (λ symbols. length symbols.items ≡ length tokens.now) }
+{
+    let plain = classify(alloc, tokens)?;
+    let symbols = seen(alloc, text, tokens, &plain)?;
+    Ok(symbols)
+}
+
+/// A fault as it is told.
+fn told(alloc: Global, text: &[u8], tokens: &[Token], error: ParseError) -> ParseError
+    requires few { length tokens.now ≤ 1048576 }
+    requires within { All (LiesWithin text.now) tokens.now }
+    ensures memory { error ≡ OutOfMemory → result ≡ OutOfMemory }
+    ensures told { IsToldRightly (seen text.now tokens.now) result }
+{
+    match symbols_of(alloc, text, tokens) {
+        Err(_) => ParseError::OutOfMemory,
+        Ok(symbols) => match first_deep(alloc, &symbols) {
+            Err(_) => ParseError::OutOfMemory,
+            Ok(first) => told_by(&symbols, first, error),
+        },
+    }
+}
+
+/// The number of a token that is too deep.
+fn token_of(first: Option<Deep>) -> Option<u32>
+    ensures none { IfNone result (IsNone first) }
+    ensures some { IfSome result (λ token. IsSomeAnd first (λ deep. deep.token ≡ token)) }
+{
+    match first {
+        None => None,
+        Some(deep) => Some(deep.token),
+    }
+}
+
+/// The first token of a text that stands in 65 open phrases or is the 2,049th of an item other than `wire`, none where
+/// there is none. It is told by the tokens alone, whether or not they are a unit.
+pub fn first_too_deep(
+    alloc: Global,
+    text: &[u8],
+    tokens: &[Token],
+) -> Result<Option<u32>, AllocError>
+    requires few { length tokens.now ≤ 1048576 }
+    requires within { All (LiesWithin text.now) tokens.now }
+    ensures some { IfOk result (λ found. IfSome found (IsFirstTooDeep (seen text.now tokens.now))) }
+    ensures none { IfOk result (λ found. IfNone found (NoneTooDeep (seen text.now tokens.now) (length tokens.now))) }
+{
+    match symbols_of(alloc, text, tokens) {
+        Err(error) => Err(error),
+        Ok(symbols) => match first_deep(alloc, &symbols) {
+            Err(error) => Err(error),
+            Ok(first) => Ok(token_of(first)),
+        },
+    }
+}
+
+/// The unit that the tokens of a text are, exactly where they are one. Else `TooDeep` with the first token that stands
+/// in too many open phrases or is one too many of an item, where the parser read up to it, and `Syntax` otherwise, with
+/// the number of the token at which it stopped. `OutOfMemory` where memory was refused: then nothing is said of the
+/// tokens.
 pub fn parse_unit(alloc: Global, text: &[u8], tokens: &[Token]) -> Result<RawUnit, ParseError>
     requires few { length tokens.now ≤ 1048576 }
     requires within { All (LiesWithin text.now) tokens.now }
     ensures unit { IfOk result (λ unit. IsUnit text.now tokens.now (unit_of unit)) }
     ensures only { (unit : raw.RawUnit) → IsUnit text.now tokens.now unit
         → MatchResult result (λ found. unit_of found ≡ unit) (λ error. error ≡ OutOfMemory) }
-    ensures deep { IfErr result (λ error. IsToldRightly (outside text.now tokens.now) error) }
+    ensures told { IfErr result (λ error. IsToldRightly (seen text.now tokens.now) error) }
 {
     match read_unit(alloc, text, tokens) {
         Ok(unit) => Ok(unit),

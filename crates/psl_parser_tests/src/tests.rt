@@ -5,7 +5,7 @@ ghost use Rattle.std.specs.Prelude.{◌≤◌, length};
 use crate::printing::unit_text;
 use psl_lexer::laws::tokens_stand_in_order;
 use psl_lexer::tokens;
-use psl_parser::{ParseError, parse_unit};
+use psl_parser::{ParseError, first_too_deep, parse_unit};
 use std::alloc::{AllocError, Global};
 
 mod expressions;
@@ -53,6 +53,23 @@ fn fault_of(alloc: Global, text: &[u8]) -> Option<ParseError> {
     match tree_of(alloc, text) {
         Ok(_) => None,
         Err(error) => Some(error),
+    }
+}
+
+// The first token that is too deep, told by the tokens alone.
+fn depth_of(alloc: Global, text: &[u8]) -> Option<u32> {
+    if text.len() > 1_048_576 {
+        return Some(u32::MAX);
+    }
+    match tokens(alloc, text) {
+        Err(_) => Some(u32::MAX),
+        Ok(found) => {
+            tokens_stand_in_order();
+            match first_too_deep(alloc, text, &found) {
+                Err(_) => Some(u32::MAX),
+                Ok(first) => first,
+            }
+        }
     }
 }
 

@@ -1,0 +1,3 @@
+-- What no reader has to believe: what the passes over the tokens carry along.
+pub mod Walk
+pub mod Names
