@@ -17,14 +17,18 @@ make_program() {
     tar -C "$top" --exclude=.git --exclude=./crates/*/out -cf - . | tar -C "$room/repository" -xf -
     cd "$room/repository"
     local crate=crates/machine_bench
-    mkdir -p $crate/src $crate/proofs/running/run $crate/proofs/running/measured
+    mkdir -p $crate/src $crate/proofs/running/{run,measured} $crate/proofs/formulas/+many
     cp -r crates/compile_examples/specs $crate/specs
-    cp crates/compile_examples/proofs/{Lib,PortNames}.antt $crate/proofs
+    cp crates/compile_examples/proofs/PortNames.antt $crate/proofs
     cp -r crates/compile_examples/proofs/ports $crate/proofs/ports
+    echo 'pub mod PortNames' > $crate/proofs/Lib.antt
+    rm $crate/specs/Units.antt
+    echo 'pub mod Ports' > $crate/specs/Lib.antt
     find $crate -name '*.antt' -exec sed -i 's/compile_examples/machine_bench/g; s/width = 4 /width = 64 /' {} +
-    for name in main ports formulas running; do cp "$parts/$name.rt.txt" $crate/src/$name.rt; done
+    for name in main ports formulas made running; do cp "$parts/$name.rt.txt" $crate/src/$name.rt; done
     cp "$parts/run_invariants.antt.txt" $crate/proofs/running/run/Invariants.antt
     cp "$parts/measured_invariants.antt.txt" $crate/proofs/running/measured/Invariants.antt
+    cp "$parts/many_invariants.antt.txt" $crate/proofs/formulas/+many/Invariants.antt
     sed -n 's/^compile_examples:\(.*\)/machine_bench: anyhow\1/p' crates.txt >> crates.txt
     cd $crate
 }
@@ -36,20 +40,15 @@ answers() { awk '{ print $NF }' "$1" | sort -u; }
 run_machine() {
     make_program
     if [[ ${1:-} == --try ]]; then
-        # The unproved run keeps no file, so it prints the text too.
-        local printed='println!(rt; "{}", String::from_utf8(text)?)?;'
-        sed -i "s|fs::write(.*|$printed|" src/main.rt
-        sed -i '/^use std::fs;/d' src/main.rt
         sed -i 's/^const BATCHES: u32 = .*/const BATCHES: u32 = 2;/' src/running.rt
-        rt try > "$room/told" 2> "$room/try.log" || { cat "$room/try.log"; exit 1; }
-        grep ' cycles .* ns ' "$room/told" > "$room/machine"
-        grep -v ' cycles .* ns ' "$room/told" > "$room/checker.v"
+        rt try > "$room/told" 2> "$room/log" || { cat "$room/log"; exit 1; }
     else
-        rt run > "$room/first" 2> "$room/run.log" || { tail -40 "$room/run.log"; exit 1; }
-        cd "$room"
-        "$room/repository/crates/machine_bench/out/machine_bench" > "$room/machine"
+        rt run > "$room/first" 2> "$room/log" || { tail -40 "$room/log"; exit 1; }
+        out/machine_bench > "$room/told"
     fi
     cd "$room"
+    grep ' cycles .* ns ' told > machine
+    grep -v ' cycles .* ns ' told > checker.v
 }
 
 # The processor time of a run of so many cycles, in nanoseconds. Its answers are left in the file 'seen'.
