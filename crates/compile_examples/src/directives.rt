@@ -1,7 +1,7 @@
 //! The checker of a unit's directive, `late: assert always (cnt[3] -> cnt[0]) report "no odd count";`. The text was
 //! worked out by hand.
 
-ghost use Rattle.std.specs.Prelude.{◌≡◌, [], ◌∷◌, map, IfOk, IfSome};
+ghost use Rattle.std.specs.Prelude.{◌≡◌, [], ◌∷◌, map, IfOk};
 ghost use Rattle.psl_model.specs.UnitView.{unit_of, directive_of};
 ghost use Rattle.psl_model.specs.View.{formula_of};
 ghost use Rattle.mbac_compile.specs.Units.{IsWellNamed, IsWellWorded, IsWellFormed};
@@ -92,13 +92,6 @@ fn unit(alloc: Global) -> Result<PslUnit, AllocError>
     }
 }
 
-fn first(unit: &PslUnit) -> Option<&Directive>
-    requires { unit_of unit.now ≡ units.whole_unit }
-    ensures { IfSome result (λ d. directive_of d.now ≡ units.directive) }
-{
-    unit.directives.get(0)
-}
-
 const TEXT: &[u8] = b"module mbac_u_late (mbac_clk, mbac_rst, mbac_eot, cnt, mbac_fail);
   // no odd count
   input mbac_clk;
@@ -149,9 +142,9 @@ fn is_compiled(alloc: Global, unit: &PslUnit, directive: &Directive) -> bool
 fn has_a_checker(alloc: Global, unit: &PslUnit) -> bool
     requires { unit_of unit.now ≡ units.whole_unit }
 {
-    match first(unit) {
-        Some(directive) => is_compiled(alloc, unit, directive),
-        None => false,
+    match directive(alloc) {
+        Ok(directive) => is_compiled(alloc, unit, &directive),
+        Err(_) => false,
     }
 }
 

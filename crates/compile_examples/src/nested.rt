@@ -16,7 +16,7 @@ use std::test::Fail;
 fn is_clear(alloc: Global) -> Result<Expr, AllocError>
     ensures { IfOk result (λ e. IsGuard (4 ∷ []) (expr_of e)) }
 {
-    let bit = Subexpr::new(alloc, bit(1))?;
+    let bit = Subexpr::new(alloc, Expr::Bit(0, 1))?;
     Ok(Expr::Unary(UnOp::Not, bit))
 }
 
