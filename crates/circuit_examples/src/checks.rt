@@ -35,16 +35,29 @@ const ALWAYS_INSIDE: [Row; 3] = [
     (["0010010", "1011010", "1000010", "0000100"], Some(6)),
 ];
 
-const ALWAYS_TWICE: [Row; 1] = [(["0000000", "1010111", "0010000", "0000000"], Some(3))];
-
-const SIDES: [Row; 2] = [
-    (["1000000", "1110111", "1000000", "0000000"], Some(3)),
-    (["1000000", "1111111", "1010000", "0000000"], Some(2)),
+const ALWAYS_TWICE: [Row; 5] = [
+    (["0000000", "1010111", "0010000", "0000000"], Some(3)),
+    // A clear drops both, and counts in its own cycle.
+    (["0000000", "1101011", "1100000", "0010000"], None),
+    (["0000000", "1101011", "1100000", "0001000"], Some(2)),
+    // A start after the clear opens both again.
+    (["0000000", "1101011", "1001000", "0010000"], Some(4)),
+    // A start in a cycle that is cleared is dropped at once.
+    (["0000000", "1101011", "1010000", "0010000"], None),
 ];
 
-const ALTERNATIVES: [Row; 2] = [
+const SIDES: [Row; 4] = [
+    (["1000000", "1110111", "1000000", "0000000"], Some(3)),
+    (["1000000", "1111111", "1010000", "0000000"], Some(2)),
+    // A clear drops what is left of both sides.
+    (["1000000", "1100000", "1000000", "0010000"], None),
+    (["1000000", "1100111", "1000010", "0010000"], Some(5)),
+];
+
+const ALTERNATIVES: [Row; 3] = [
     (["0101", "0010", "0111", "0000"], None),
     (["0100", "0010", "0111", "0000"], Some(3)),
+    (["0100", "0010", "0111", "0001"], None),
 ];
 
 fn checked(alloc: Global, formula: &Subbase) -> Result<(Netlist, Check), AllocError>
