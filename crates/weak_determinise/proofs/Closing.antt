@@ -1,22 +1,21 @@
 -- Nodes that begin with the start's set and whose moves lead to nodes are all reached sets.
-use Rattle.std.proofs.Common.{◌≡◌, ◌≢◌, ℕ, zero, suc, ◌+◌, ◌<◌, ◌≤◌, Bool, IsTrue, List, [], ◌∷◌, ◌++◌, length, map}
-use Rattle.std.proofs.Common.{get_or, slice_get, Some, All, AllPairs, Contains, inl, inr, ◌⊎◌, ◌↔◌, refl, sym, ap, ◌∙◌}
+use Rattle.std.proofs.Common.{◌≡◌, ◌≢◌, ℕ, zero, suc, ◌≤◌, Bool, IsTrue, List, [], ◌∷◌, length, map}
+use Rattle.std.proofs.Common.{slice_get, Some, All, AllPairs, Contains, inl, inr, ◌↔◌, refl, sym, ap, ◌∙◌}
 use Rattle.std.proofs.Common.{subst, arith}
 use Rattle.std.proofs.lemmas.Option.{same_Some}
 use Rattle.std.proofs.lemmas.List.Elements.{All-contains}
 use Rattle.auto_core.specs.declared.labels.Literal.{Literal}
 use Rattle.auto_core.specs.Machine.{Machine, Passes, value_in}
-use Rattle.auto_core.specs.Graph.{IsAlive}
 use Rattle.weak_determinise.proofs.Members.{Among, Contains-from_Among, Among-from_Contains, ByRecursion-among}
 use Rattle.weak_determinise.proofs.Members.{ByRecursion-from}
 use Rattle.weak_determinise.proofs.Once.{Apart, Among-slice_get, slice_get-Among, Apart-from_AllPairs}
-use Rattle.weak_determinise.proofs.Lists.{Among-map, map-Among, All-among}
+use Rattle.weak_determinise.proofs.Lists.{Among-map, All-among}
 use Rattle.weak_determinise.proofs.Lists.{no_longer}
 use Rattle.weak_determinise.specs.declared.sets.SetNode.{SetNode}
 use Rattle.weak_determinise.specs.declared.sets.Move.{Move}
 use Rattle.weak_determinise.specs.declared.sets.Move.TheVariants.{Empty, Accepting, Set}
 use Rattle.weak_determinise.specs.inner.Stepping.{Step}
-use Rattle.weak_determinise.specs.Nodes.{number_of, IsMove, IsNode}
+use Rattle.weak_determinise.specs.Nodes.{IsMove, IsNode}
 use Rattle.weak_determinise.specs.ReachedSets.{HasSameStates, HasStep, LeadsTo, Gives, IsReachedSet, at_start}
 use Rattle.weak_determinise.specs.ReachedSets.{by_values, Leaves, HasMoreSets, HasMoreLeaving, IsTooLarge}
 use Rattle.weak_determinise.specs.inner.Stepping.{AreSteps, AreSymbols, IsRenamed, AreRenamed, AreTargets}

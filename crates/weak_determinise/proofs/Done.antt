@@ -1,7 +1,7 @@
 -- What is known at each call of the expansion, and when no set is left.
-use Rattle.std.proofs.Common.{◌≡◌, ◌≢◌, ℕ, zero, suc, ◌+◌, ◌<◌, ◌≤◌, ◌^◌, Bool, IsTrue, List, [], ◌∷◌, ◌++◌, length}
-use Rattle.std.proofs.Common.{map, take, get_or, slice_get, Some, Result, Ok, Err, IfOk, OnOk, All, AllPairs, Contains}
-use Rattle.std.proofs.Common.{inl, inr, ◌⊎◌, ◌↔◌, refl, sym, ap, ◌∙◌, subst, arith}
+use Rattle.std.proofs.Common.{◌≡◌, ℕ, zero, suc, ◌<◌, ◌≤◌, ◌^◌, Bool, IsTrue, List, [], ◌∷◌, length}
+use Rattle.std.proofs.Common.{map, get_or, slice_get, Some, Result, Ok, Err, IfOk, OnOk, All, AllPairs}
+use Rattle.std.proofs.Common.{inl, inr, refl, sym, ap, ◌∙◌, subst, arith}
 use Rattle.std.specs.List.{position_or_len}
 use Rattle.std.proofs.lemmas.List.{take_all}
 use Rattle.std.proofs.lemmas.Option.{same_Some}
@@ -9,23 +9,23 @@ use Rattle.indexmap.specs.IndexSet.{insert_key}
 use Rattle.auto_core.specs.Machine.{Machine}
 use Rattle.auto_core.specs.Graph.{Graph, graph_machine}
 use Rattle.weak_determinise.proofs.Members.{Among, Contains-from_Among, Among-from_Contains, ByRecursion-among}
-use Rattle.weak_determinise.proofs.Once.{AllPairs-from_Apart, Among-slice_get}
-use Rattle.weak_determinise.proofs.Lists.{Among-map, map-Among, All-from_among}
+use Rattle.weak_determinise.proofs.Once.{AllPairs-from_Apart}
+use Rattle.weak_determinise.proofs.Lists.{Among-map, All-from_among}
 use Rattle.auto_core.specs.declared.labels.Literal.{Literal}
 use Rattle.auto_core.specs.declared.tables.Edge.{Edge}
 use Rattle.weak_determinise.specs.declared.marking.Steps.{Steps}
-use Rattle.weak_determinise.specs.inner.Stepping.{Step, steps_in, all_steps, IsGathered, AreSymbolsOf, AreRenamedLabels}
+use Rattle.weak_determinise.specs.inner.Stepping.{steps_in, all_steps, IsGathered, AreSymbolsOf, AreRenamedLabels}
 use Rattle.weak_determinise.specs.declared.sets.SetNode.{SetNode}
 use Rattle.weak_determinise.specs.declared.sets.DetError.{DetError}
 use Rattle.weak_determinise.specs.declared.sets.Move.{Move}
 use Rattle.weak_determinise.specs.declared.sets.Move.TheVariants.{Empty, Accepting, Set}
 use Rattle.weak_determinise.specs.inner.Numbers.{IsRising}
 use Rattle.weak_determinise.specs.Nodes.{IsMove, IsNode, AreReachedSets}
-use Rattle.weak_determinise.specs.inner.Stepping.{AreSteps, AreSymbols, AreRenamed}
-use Rattle.weak_determinise.specs.inner.Moving.{Apart, same_places, AreMoves, IsFull}
-use Rattle.weak_determinise.specs.ReachedSets.{HasSameStates, Gives, IsReachedSet, at_start, HasMoreSets}
-use Rattle.weak_determinise.specs.ReachedSets.{HasMoreLeaving, IsTooLarge}
-use Rattle.weak_determinise.specs.inner.Expanding.{IsNextSet, Widens, TellsSet, IsNodeOf, IsTooLargeAt, IsPrepared}
+use Rattle.weak_determinise.specs.inner.Stepping.{AreSteps}
+use Rattle.weak_determinise.specs.inner.Moving.{same_places, AreMoves, IsFull}
+use Rattle.weak_determinise.specs.ReachedSets.{HasSameStates, Gives, IsReachedSet, at_start}
+use Rattle.weak_determinise.specs.ReachedSets.{IsTooLarge}
+use Rattle.weak_determinise.specs.inner.Expanding.{Widens, TellsSet, IsNodeOf, IsTooLargeAt, IsPrepared}
 use Rattle.weak_determinise.specs.inner.Expanding.{IsPartWay}
 use Rattle.weak_determinise.proofs.Digits.{number_below}
 use Rattle.weak_determinise.proofs.Closing.{symbols_leave, each, not_too_large}

@@ -1,12 +1,11 @@
 -- The moves of a set's steps are those of the set.
-use Rattle.std.proofs.Common.{◌≡◌, ◌≢◌, ℕ, zero, suc, ◌+◌, ◌<◌, ◌≤◌, ◌^◌, Bool, true, false, eqb, IsTrue, List, [], ◌∷◌}
-use Rattle.std.proofs.Common.{◌++◌, length, map, slice_get, Some, All, AllPairs, Contains, inl, inr, ◌⊎◌, ◌↔◌, refl}
+use Rattle.std.proofs.Common.{◌≡◌, ◌≢◌, ℕ, suc, ◌<◌, ◌≤◌, ◌^◌, Bool, false, eqb, IsTrue, List, [], ◌∷◌}
+use Rattle.std.proofs.Common.{length, map, slice_get, Some, Contains, inl, inr, ◌↔◌, refl}
 use Rattle.std.proofs.Common.{sym, ap, ◌∙◌, subst, arith, cond}
-use Rattle.std.specs.List.{position_or_len}
 use Rattle.std.proofs.lemmas.Bool.Decides.{Decides-eqb}
-use Rattle.auto_core.specs.Machine.{Machine, value_in}
-use Rattle.weak_determinise.proofs.Members.{Among, Contains-from_Among, Among-from_Contains, ByRecursion-among}
-use Rattle.weak_determinise.proofs.Once.{AllPairs-from_Apart, position-Among, told}
+use Rattle.auto_core.specs.Machine.{Machine}
+use Rattle.weak_determinise.proofs.Members.{Contains-from_Among, Among-from_Contains, ByRecursion-among}
+use Rattle.weak_determinise.proofs.Once.{told}
 use Rattle.weak_determinise.proofs.Lists.{All-from_among, map-agree}
 use Rattle.weak_determinise.specs.inner.Stepping.{Step}
 use Rattle.weak_determinise.specs.declared.sets.Move.{Move}
@@ -15,8 +14,8 @@ use Rattle.weak_determinise.specs.declared.sets.SetNode.{SetNode}
 use Rattle.weak_determinise.specs.Nodes.{number_of}
 use Rattle.weak_determinise.specs.inner.Numbers.{IsRising}
 use Rattle.weak_determinise.specs.inner.Stepping.{AreSteps, AreSymbols, AreRenamed, AreTargets}
-use Rattle.weak_determinise.specs.inner.Moving.{same_places, IsNext, Tells, Extends, AreMoves, IsFull}
-use Rattle.weak_determinise.specs.ReachedSets.{LeadsTo, Gives, Leaves, HasMoreLeaving}
+use Rattle.weak_determinise.specs.inner.Moving.{IsNext, Tells, Extends, AreMoves, IsFull}
+use Rattle.weak_determinise.specs.ReachedSets.{Gives, Leaves}
 use Rattle.weak_determinise.specs.inner.Expanding.{IsNextSet, Widens, TellsSet, IsNodeOf, IsTooLargeAt}
 use Rattle.weak_determinise.proofs.Closing.{targets_given, symbols_leave}
 

@@ -1,5 +1,5 @@
 -- The steps of a set, gathered one after the other.
-use Rattle.std.proofs.Common.{◌≡◌, ℕ, zero, suc, ◌+◌, ◌<◌, Bool, true, false, eqb, List, [], ◌∷◌, ◌++◌, length, take}
+use Rattle.std.proofs.Common.{◌≡◌, ℕ, zero, suc, ◌+◌, ◌<◌, eqb, List, [], ◌∷◌, ◌++◌, length, take}
 use Rattle.std.proofs.Common.{get_or, set, slice_get, Some, All, Contains, inl, inr, ◌⊎◌, ◌↔◌, refl, sym, ap, ◌∙◌}
 use Rattle.std.proofs.Common.{subst, arith, append_assoc, length-append, ◌≢◌}
 use Rattle.std.specs.List.{position_or_len}
@@ -8,7 +8,7 @@ use Rattle.std.proofs.lemmas.Bool.Decides.{Decides-eqb}
 use Rattle.std.proofs.lemmas.Option.{same_Some, slice_get-get_or, slice_get_within}
 use Rattle.indexmap.specs.IndexSet.{insert_key}
 use Rattle.auto_core.specs.declared.labels.Literal.{Literal}
-use Rattle.auto_core.specs.LiteralSets.{same_label, IsLabel, put_all}
+use Rattle.auto_core.specs.LiteralSets.{same_label}
 use Rattle.auto_core.specs.Machine.{Machine}
 use Rattle.auto_core.specs.Graph.{IsAlive}
 use Rattle.weak_determinise.proofs.Members.{Among, Contains-from_Among, Among-from_Contains, Among-get_or}

@@ -1,16 +1,15 @@
 -- The moves of a set, made one after the other.
-use Rattle.std.proofs.Common.{◌≡◌, ◌≢◌, ℕ, zero, suc, ◌+◌, ◌<◌, ◌≤◌, Bool, true, eqb, nat_eq, IsTrue, List, [], ◌∷◌}
-use Rattle.std.proofs.Common.{◌++◌, length, take, get_or, slice_get, Some, All, inl, inr, ◌⊎◌, ◌↔◌, refl, sym, ap, ◌∙◌}
+use Rattle.std.proofs.Common.{◌≡◌, ℕ, zero, suc, ◌+◌, ◌<◌, Bool, List, [], ◌∷◌}
+use Rattle.std.proofs.Common.{◌++◌, length, slice_get, Some, All, inl, inr, ◌⊎◌, refl, sym, ap, ◌∙◌}
 use Rattle.std.proofs.Common.{subst, arith, append_assoc, length-append}
 use Rattle.std.specs.Bool.{Decides}
 use Rattle.std.specs.List.{position_or_len}
 use Rattle.std.proofs.lemmas.Bool.Decides.{Decides-eqb}
 use Rattle.std.proofs.lemmas.Slice.Eq.{slice_eq-Decides}
-use Rattle.std.proofs.lemmas.Option.{same_Some}
 use Rattle.indexmap.specs.IndexSet.{insert_key}
 use Rattle.auto_core.specs.Machine.{Machine}
 use Rattle.weak_determinise.proofs.Members.{Among}
-use Rattle.weak_determinise.proofs.Once.{Apart-push, append-nil, Among-append, Among-left, Among-right, slice_get-Among}
+use Rattle.weak_determinise.proofs.Once.{Apart-push, append-nil, Among-append}
 use Rattle.weak_determinise.proofs.Once.{insert_key-there, insert_key-new, among_or_not, position-Among}
 use Rattle.weak_determinise.proofs.Once.{position-absent, Among-slice_get}
 use Rattle.weak_determinise.proofs.Lists.{All-from_among, All-among}
@@ -21,8 +20,7 @@ use Rattle.weak_determinise.specs.declared.sets.Move.{Move}
 use Rattle.weak_determinise.specs.declared.sets.Move.TheVariants.{Empty, Accepting, Set}
 use Rattle.weak_determinise.specs.Nodes.{number_of}
 use Rattle.weak_determinise.specs.inner.Stepping.{AreTargets}
-use Rattle.weak_determinise.specs.inner.Moving.{Apart, same_places, IsNext, Tells, Grows, FindsFull, Extends, AreMoves}
-use Rattle.weak_determinise.specs.inner.Moving.{IsFull}
+use Rattle.weak_determinise.specs.inner.Moving.{same_places, IsNext, Tells, Grows, Extends, AreMoves}
 use Rattle.weak_determinise.proofs.Digits.{digits_determined}
 
 pub same_places-Decides : (a b : List ℕ) → Decides (same_places a b) (a ≡ b)

@@ -1,30 +1,26 @@
 -- Steps over places, and sets that are expanded one after the other.
-use Rattle.std.proofs.Common.{◌≡◌, ◌≢◌, ℕ, zero, suc, ◌+◌, ◌<◌, ◌≤◌, Bool, eqb, IsTrue, List, [], ◌∷◌, ◌++◌, length}
-use Rattle.std.proofs.Common.{map, take, filter, get_or, slice_get, Some, All, AllPairs, Contains, inl, inr, ◌⊎◌, ◌↔◌}
+use Rattle.std.proofs.Common.{◌≡◌, ℕ, zero, suc, ◌+◌, ◌<◌, ◌≤◌, Bool, eqb, List, [], ◌∷◌, ◌++◌, length}
+use Rattle.std.proofs.Common.{map, take, filter, get_or, slice_get, Some, All, AllPairs, inl, inr}
 use Rattle.std.proofs.Common.{refl, sym, ap, ◌∙◌, subst, arith, length-append}
-use Rattle.std.specs.List.{position_or_len}
-use Rattle.std.proofs.lemmas.List.{take_all}
-use Rattle.std.proofs.lemmas.Option.{same_Some, slice_get_within, slice_get-get_or}
+use Rattle.std.proofs.lemmas.Option.{slice_get_within, slice_get-get_or}
 use Rattle.auto_core.specs.declared.labels.Literal.{Literal}
 use Rattle.auto_core.specs.declared.tables.Edge.{Edge}
-use Rattle.auto_core.specs.Machine.{Machine}
 use Rattle.auto_core.specs.Graph.{Graph, graph_machine, edges_from}
 use Rattle.weak_determinise.proofs.Members.{Among, Among-get_or, Contains-from_Among, Among-from_Contains}
-use Rattle.weak_determinise.proofs.Members.{ByRecursion-among}
-use Rattle.weak_determinise.proofs.Once.{Among-append, Among-left, Among-slice_get, slice_get-Among, Among-filter}
-use Rattle.weak_determinise.proofs.Once.{among_or_not, position-Among, position-absent, Apart-push}
-use Rattle.weak_determinise.proofs.Lists.{map-Among, Among-map, All-among, All-from_among, take-next}
+use Rattle.weak_determinise.proofs.Once.{Among-append, Among-slice_get, slice_get-Among, Among-filter}
+use Rattle.weak_determinise.proofs.Once.{position-Among, position-absent, Apart-push}
+use Rattle.weak_determinise.proofs.Lists.{map-Among, All-among, All-from_among, take-next}
 use Rattle.weak_determinise.specs.declared.marking.Steps.{Steps}
-use Rattle.weak_determinise.specs.inner.Stepping.{Step, step_to, steps_in, all_steps, IsFor, IsGathered}
+use Rattle.weak_determinise.specs.inner.Stepping.{step_to, steps_in, IsGathered}
 use Rattle.weak_determinise.specs.inner.Stepping.{AreSymbolsOf, AreRenamedLabels}
 use Rattle.weak_determinise.specs.declared.sets.SetNode.{SetNode}
 use Rattle.weak_determinise.specs.declared.sets.Move.{Move}
 use Rattle.weak_determinise.specs.declared.sets.Move.TheVariants.{Empty, Accepting, Set}
 use Rattle.weak_determinise.specs.inner.Numbers.{IsRising}
-use Rattle.weak_determinise.specs.inner.Stepping.{AreSteps, AreSymbols, IsRenamed, AreRenamed}
-use Rattle.weak_determinise.specs.inner.Moving.{Apart, same_places, AreMoves, IsFull}
-use Rattle.weak_determinise.specs.ReachedSets.{HasSameStates, LeadsTo, Gives, IsReachedSet, by_values, Leaves}
-use Rattle.weak_determinise.specs.ReachedSets.{HasMoreSets, HasMoreLeaving, IsTooLarge}
+use Rattle.weak_determinise.specs.inner.Stepping.{AreSteps, AreRenamed}
+use Rattle.weak_determinise.specs.inner.Moving.{Apart, same_places}
+use Rattle.weak_determinise.specs.ReachedSets.{HasSameStates, IsReachedSet, by_values}
+use Rattle.weak_determinise.specs.ReachedSets.{IsTooLarge}
 use Rattle.weak_determinise.specs.inner.Expanding.{IsNextSet, Widens, TellsSet, IsNodeOf, IsTooLargeAt, IsPrepared}
 use Rattle.weak_determinise.specs.inner.Expanding.{IsPartWay}
 use Rattle.weak_determinise.proofs.Gathering.{default_same, steps_in-Among, symbols_are, all_renamed, renamed_even}

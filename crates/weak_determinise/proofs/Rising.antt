@@ -1,11 +1,11 @@
 -- Numbers in order.
-use Rattle.std.proofs.Common.{◌≡◌, ℕ, zero, suc, ◌<◌, ◌≤◌, List, [], ◌∷◌, length, get_or, Result, Ok, Err, inl, inr}
-use Rattle.std.proofs.Common.{◌⊎◌, ◌↔◌, refl, sym, ap, ◌∙◌, subst, arith, slice_get, Some}
+use Rattle.std.proofs.Common.{◌≡◌, ℕ, zero, suc, ◌<◌, ◌≤◌, List, [], ◌∷◌, length, get_or, Ok, Err, inl, inr}
+use Rattle.std.proofs.Common.{◌⊎◌, refl, sym, ap, ◌∙◌, subst, arith, slice_get, Some}
 use Rattle.std.specs.List.{AllByRecursion, insert}
 use Rattle.std.specs.List.Sorted.{IsBinarySearchResult}
 use Rattle.std.specs.Ordering.{nat_cmp}
 use Rattle.std.proofs.lemmas.List.Sorted.{searched}
-use Rattle.weak_determinise.proofs.Members.{Among, Among-get_or, ByRecursion-among, ByRecursion-from}
+use Rattle.weak_determinise.proofs.Members.{Among, ByRecursion-among, ByRecursion-from}
 use Rattle.weak_determinise.proofs.Once.{Among-slice_get}
 use Rattle.weak_determinise.specs.inner.Numbers.{IsRising, PutsIn}
 

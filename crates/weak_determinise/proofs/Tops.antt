@@ -1,11 +1,11 @@
 -- Lists of tops from the start.
-use Rattle.std.proofs.Common.{◌≡◌, ◌⊎◌, ℕ, zero, suc, ◌+◌, ◌<◌, List, [], ◌∷◌, None, Some, length, slice_get, replicate}
-use Rattle.std.proofs.Common.{Contains, inl, inr, refl, sym, ap, ◌∙◌, subst, arith, add-one}
+use Rattle.std.proofs.Common.{◌≡◌, ◌⊎◌, ℕ, zero, suc, ◌+◌, ◌<◌, List, ◌∷◌, None, Some, length, slice_get, replicate}
+use Rattle.std.proofs.Common.{inl, inr, refl, sym, ap, ◌∙◌, subst, arith, add-one}
 use Rattle.std.proofs.lemmas.Option.{same_Some}
 use Rattle.auto_core.specs.declared.labels.Literal.{Literal}
-use Rattle.auto_core.specs.Machine.{Machine, Letter, AcceptsFrom, Accepts}
+use Rattle.auto_core.specs.Machine.{Machine, AcceptsFrom}
 use Rattle.auto_core.specs.Graph.{IsAlive}
-use Rattle.weak_determinise.proofs.Members.{Among, Contains-from_Among, Among-from_Contains}
+use Rattle.weak_determinise.proofs.Members.{Contains-from_Among, Among-from_Contains}
 use Rattle.weak_determinise.proofs.Once.{Among-slice_get, slice_get-Among}
 
 -- the first edges of the state lead to no alive state

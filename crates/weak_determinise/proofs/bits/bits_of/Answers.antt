@@ -1,6 +1,5 @@
-use Rattle.std.proofs.Common.{◌≡◌, ◌∙◌, ◌-◌, ◌+◌, ◌^◌, ◌*◌, ◌/◌, ◌<◌, ℕ, List, length, get_or, sym, ap, subst, refl}
-use Rattle.std.proofs.Common.{arith, take, Some, All, true, false, slice_index_or, inl, inr}
-use Rattle.auto_core.specs.Graph.{graph_machine, IsAlive}
+use Rattle.std.proofs.Common.{◌≡◌, ◌+◌, ◌^◌, ◌*◌, ◌/◌, List, sym, subst, refl}
+use Rattle.std.proofs.Common.{arith}
 use Rattle.weak_determinise.specs.Nodes.{number_of}
 use Rattle.weak_determinise.proofs.Digits.{digit_taken, half_small, none_left}
 use Rattle.weak_determinise.proofs.bits.bits_of.Goals as goal

@@ -1,4 +1,4 @@
-use Rattle.std.proofs.Common.{◌≡◌, ◌∙◌, ◌+◌, ℕ, sym, refl, subst, length, arith, None, replicate}
+use Rattle.std.proofs.Common.{◌∙◌, ◌+◌, ℕ, sym, refl, subst, arith, None, replicate}
 use Rattle.auto_core.specs.Machine.{AcceptsFrom}
 use Rattle.auto_core.specs.Graph.{graph_machine}
 use Rattle.weak_determinise.proofs.Tops.{all_dead, some_accepted}

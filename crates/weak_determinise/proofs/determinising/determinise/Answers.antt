@@ -1,4 +1,4 @@
-use Rattle.std.proofs.Common.{◌≡◌, subst, All, length, ◌<◌}
+use Rattle.std.proofs.Common.{subst, All, length, ◌<◌}
 use Rattle.weak_determinise.proofs.Done.{are_reached, small_enough}
 use Rattle.weak_determinise.proofs.determinising.determinise.Goals as goal
 

@@ -1,5 +1,5 @@
-use Rattle.std.proofs.Common.{◌≡◌, Err, refl, arith, ◌≤◌, length}
-use Rattle.std.proofs.lemmas.Result.{err_from_is_err_and, on_ok_weaker}
+use Rattle.std.proofs.Common.{◌≡◌, Err}
+use Rattle.std.proofs.lemmas.Result.{err_from_is_err_and}
 use Rattle.weak_determinise.specs.declared.sets.DetError.TheVariants.{TooLarge}
 use Rattle.weak_determinise.proofs.Done.{made_of, ok_any, many_leave, full_at, widened, node_at}
 use Rattle.weak_determinise.proofs.determinising.node_from.Goals as goal

@@ -1,4 +1,4 @@
-use Rattle.std.proofs.Common.{◌<◌, All, get_or, length, refl}
+use Rattle.std.proofs.Common.{◌<◌, get_or, length, refl}
 use Rattle.std.proofs.lemmas.List.Elements.{All-get_or}
 use Rattle.weak_determinise.proofs.Gathering.{default_same}
 use Rattle.weak_determinise.proofs.MarkedTargets.{no_marks, marks_more}

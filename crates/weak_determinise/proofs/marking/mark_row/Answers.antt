@@ -1,4 +1,4 @@
-use Rattle.std.proofs.Common.{◌≡◌, ◌∙◌, sym, subst, List, ℕ, Some, Bool, ap}
+use Rattle.std.proofs.Common.{◌∙◌, sym, subst, List, ℕ, Some}
 use Rattle.auto_core.specs.Machine.{Passes, value_in}
 use Rattle.weak_determinise.specs.inner.Among.{Among}
 use Rattle.weak_determinise.specs.inner.Stepping.{AddsMarks}

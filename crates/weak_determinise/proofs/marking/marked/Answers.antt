@@ -1,4 +1,4 @@
-use Rattle.std.proofs.Common.{◌≡◌, ◌∙◌, ◌+◌, sym, subst, List, ℕ, ap, false, true, get_or, arith}
+use Rattle.std.proofs.Common.{◌∙◌, ◌+◌, sym, subst, List, ℕ, ap}
 use Rattle.weak_determinise.specs.inner.Stepping.{AreMarked}
 use Rattle.weak_determinise.proofs.Once.{true-false}
 use Rattle.weak_determinise.proofs.MarkedTargets.{one_marked, one_unmarked}

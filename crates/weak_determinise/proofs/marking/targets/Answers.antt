@@ -1,8 +1,6 @@
-use Rattle.std.proofs.Common.{◌≡◌, ◌∙◌, ◌<◌, sym, subst, List, ℕ, ap, false, length, arith, replicate, All}
+use Rattle.std.proofs.Common.{◌∙◌, List, ap, false, length, arith}
 use Rattle.std.proofs.lemmas.List.{length-replicate}
-use Rattle.std.proofs.lemmas.List.Elements.{All-get_or}
 use Rattle.std.proofs.lemmas.Result.{IfOk-weaker}
-use Rattle.auto_core.specs.declared.labels.Literal.{Literal}
 use Rattle.weak_determinise.proofs.MarkedTargets.{no_rows, rows_more, targets_found, label_known, row_owned}
 use Rattle.weak_determinise.proofs.marking.targets.Goals as goal
 

@@ -1,4 +1,4 @@
-use Rattle.std.proofs.Common.{◌≡◌, ◌∙◌, sym, refl, ap, get_or, inl, inr, subst, IsTrue, ℕ, true, false}
+use Rattle.std.proofs.Common.{◌∙◌, sym, refl, ap, get_or, inl, inr}
 use Rattle.auto_core.specs.Graph.{graph_machine}
 use Rattle.weak_determinise.proofs.Members.{Among-get_or}
 use Rattle.weak_determinise.proofs.Once.{true-false}

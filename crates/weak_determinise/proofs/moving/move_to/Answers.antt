@@ -1,4 +1,4 @@
-use Rattle.std.proofs.Common.{◌≡◌, ◌∙◌, sym, refl, ap, subst, List, ℕ, [], ◌∷◌, length, vec_len, eqb, arith, All, ◌<◌}
+use Rattle.std.proofs.Common.{◌≡◌, ◌∙◌, sym, refl, ap, subst, List, ℕ, [], ◌∷◌, length, vec_len, arith, All, ◌<◌}
 use Rattle.std.proofs.lemmas.Bool.Decides.{Decides-eqb}
 use Rattle.weak_determinise.proofs.Members.{Among}
 use Rattle.weak_determinise.proofs.Once.{true-false}

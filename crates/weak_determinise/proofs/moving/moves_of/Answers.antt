@@ -1,6 +1,6 @@
 use Rattle.auto_core.specs.Graph.{graph_machine}
 use Rattle.weak_determinise.specs.inner.Stepping.{all_steps}
-use Rattle.weak_determinise.proofs.Moves.{no_moves, move_more}
+use Rattle.weak_determinise.proofs.Moves.{move_more}
 use Rattle.weak_determinise.proofs.moving.moves_of.Goals as goal
 
 pub loop-value-preserved : goal.loop-value-preserved

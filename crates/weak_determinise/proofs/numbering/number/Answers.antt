@@ -1,7 +1,5 @@
-use Rattle.std.proofs.Common.{rules, ◌≡◌, ◌∙◌, ◌-◌, ◌+◌, ◌^◌, ◌*◌, ◌<◌, ℕ, List, length, get_or, sym, ap, subst, refl}
-use Rattle.std.proofs.Common.{arith, take, Some, All, true, false, slice_index_or, inl, inr}
-use Rattle.auto_core.specs.Graph.{graph_machine, IsAlive}
-use Rattle.std.proofs.Common.{Result, Ok, IfOk, eqb}
+use Rattle.std.proofs.Common.{rules, ◌≡◌, ◌∙◌, ℕ, List, sym, ap, subst}
+use Rattle.std.proofs.Common.{Result, IfOk, eqb}
 use Rattle.std.specs.Cmp.Lexicographic.{pointwise}
 use Rattle.weak_determinise.specs.declared.sets.DetError.{DetError}
 use Rattle.std.specs.List.{position_or_len}

@@ -1,5 +1,4 @@
-use Rattle.std.proofs.Common.{◌≡◌, sym, subst}
-use Rattle.weak_determinise.proofs.Rising.{not_absent, found_at}
+use Rattle.weak_determinise.proofs.Rising.{not_absent}
 use Rattle.weak_determinise.proofs.numbers.place_of.Goals as goal
 
 pub returns-in-Err : goal.returns-in-Err

@@ -1,7 +1,7 @@
-use Rattle.std.proofs.Common.{◌≡◌, ◌∙◌, sym, ap, true}
+use Rattle.std.proofs.Common.{◌∙◌, sym, ap}
 use Rattle.auto_core.specs.Graph.{graph_machine}
 use Rattle.auto_core.specs.LiteralSets.{put_all}
-use Rattle.weak_determinise.proofs.Gathering.{step_left, step_found}
+use Rattle.weak_determinise.proofs.Gathering.{step_found}
 use Rattle.weak_determinise.proofs.stepping.put_step.Goals as goal
 
 pub returns-in_ok-put_target-clause-takes : goal.returns-in_ok-put_target-clause-takes

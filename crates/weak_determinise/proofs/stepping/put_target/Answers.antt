@@ -1,4 +1,4 @@
-use Rattle.std.proofs.Common.{◌≡◌, sym, refl}
+use Rattle.std.proofs.Common.{sym, refl}
 use Rattle.std.proofs.lemmas.Result.{on_ok_weaker}
 use Rattle.weak_determinise.proofs.Members.{Among-get_or}
 use Rattle.weak_determinise.proofs.Gathering.{row_below, target_put, target_gathered}
