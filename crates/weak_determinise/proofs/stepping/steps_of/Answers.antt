@@ -6,7 +6,8 @@ use Rattle.weak_determinise.proofs.stepping.steps_of.Goals as goal
 pub loop-state-init : goal.loop-state-init
 loop-state-init c = record {
   gathered = gathered_none _ _ c.nothing-gathered.ensures.labels c.nothing-gathered.ensures.rows;
-  steps = steps_of_none (graph_machine c.args.table.now) _ _ c.nothing-gathered.ensures.labels c.nothing-gathered.ensures.rows;
+  steps = steps_of_none (graph_machine c.args.table.now) _ _ c.nothing-gathered.ensures.labels
+      c.nothing-gathered.ensures.rows;
 }
 
 pub loop-state-preserved : goal.loop-state-preserved
