@@ -1,0 +1,14 @@
+pub mod Closing
+pub mod Digits
+pub mod Done
+pub mod Expansion
+pub mod Gathering
+pub mod Lists
+pub mod MarkedTargets
+pub mod Members
+pub mod Moves
+pub mod Once
+pub mod Preparing
+pub mod Rising
+pub mod SameLabel
+pub mod Tops
