@@ -1,0 +1,65 @@
+use Rattle.std.proofs.Common.{◌≡◌, ℕ, List, length, map, ◌++◌, refl, sym, subst, arith, rules}
+use Rattle.psl_model.specs.declared.units.Directive.{Directive}
+use Rattle.psl_model.specs.UnitView.{unit_of, directive_of}
+use Rattle.verilog_text.specs.declared.module.Module.{Module}
+use Rattle.verilog_text.specs.View.{module_of}
+use Rattle.mbac_compile.specs.Built.{IsBuilt}
+use Rattle.mbac_compile.specs.Units.{IsWellWorded, IsWellFormed}
+use Rattle.unit_compile.specs.Made.{AreMade}
+use Rattle.unit_compile.proofs.Loops.{plain, StandsAt, has_at, made_next, made_whole, fit_next, fit_whole, unfilled}
+use Rattle.unit_compile.specs.inner.Unmade.{IsUnfilled}
+use Rattle.unit_compile.proofs.making.built_modules.Goals as goal
+
+pub put_module-requires-clause-words : goal.put_module-requires-clause-words
+put_module-requires-clause-words c =
+    has_at (λ (d : Directive). IsWellWorded (directive_of d)) c.args.directives.now c.loop-place.place
+    c.index-directives-place.result (record { within = c.loop-place-test.true; read = c.index-directives-place.is })
+    c.requires.words
+
+pub put_module-requires-clause-expressions : goal.put_module-requires-clause-expressions
+put_module-requires-clause-expressions c =
+    has_at (λ (d : Directive). IsWellFormed (unit_of c.args.unit.now) (directive_of d)) c.args.directives.now
+    c.loop-place.place c.index-directives-place.result
+    (record { within = c.loop-place-test.true; read = c.index-directives-place.is }) c.requires.expressions
+
+pub put_module-requires-clause-built : goal.put_module-requires-clause-built
+put_module-requires-clause-built c =
+    has_at (λ (d : Directive). IsBuilt (directive_of d).formula) c.args.directives.now c.loop-place.place
+    c.index-directives-place.result (record { within = c.loop-place-test.true; read = c.index-directives-place.is })
+    c.requires.built
+
+pub loop-place-init : goal.loop-place-init
+loop-place-init c = (
+  λ rest h. subst (λ (ms : List Module). AreMade (unit_of c.args.unit.now) 1 (plain c.args.directives.now)
+      (map module_of ms ++ rest)) (sym c.new-modules.ensures.items) h,
+  refl,
+)
+
+pub loop-place-preserved : goal.loop-place-preserved
+loop-place-preserved c =
+    let at : StandsAt c.args.directives.now c.loop-place.place c.index-directives-place.result =
+    record { within = c.loop-place-test.true; read = c.index-directives-place.is } in (
+      made_next (unit_of c.args.unit.now) c.args.directives.now c.loop-place.place c.index-directives-place.result
+          (map module_of c.loop-place.modules.items) _ at c.loop-place.invariant.0 c.in_ok-put_module.ensures.made,
+      fit_next c.args.directives.now c.loop-place.place c.index-directives-place.result at
+          c.in_ok-put_module.ensures.within c.loop-place.invariant.1,
+    )
+
+pub returns-clause-made : goal.returns-clause-made
+returns-clause-made c =
+    let all : c.loop-place.place ≡ length c.args.directives.now = omega arith in
+    made_whole (unit_of c.args.unit.now) c.args.directives.now c.loop-place.place
+    (map module_of c.loop-place.modules.items) all c.loop-place.invariant.0
+
+pub returns-clause-within : goal.returns-clause-within
+returns-clause-within c =
+    let all : c.loop-place.place ≡ length c.args.directives.now = omega arith in
+    fit_whole c.args.directives.now c.loop-place.place all c.loop-place.invariant.1
+
+pub returns-in_err-put_module-clause-refused : goal.returns-in_err-put_module-clause-refused
+returns-in_err-put_module-clause-refused c =
+    let why : IsUnfilled (map directive_of c.args.directives.now) c.in_err-put_module.field-0.0 =
+    unfilled c.args.directives.now c.loop-place.place c.index-directives-place.result c.in_err-put_module.field-0.0
+    (record { within = c.loop-place-test.true; read = c.index-directives-place.is })
+    c.in_err-put_module.ensures.refused c.loop-place.invariant.1 in
+    first_of (search (rules, why), grind (arith, why))

@@ -1,0 +1,9 @@
+use Rattle.std.proofs.Common.{◌≡◌, ℕ, ◌+◌, arith}
+use Rattle.psl_model.specs.UnitView.{directive_of}
+use Rattle.unit_compile.proofs.Unmade.{unmade_so}
+use Rattle.unit_compile.proofs.making.module_at.Goals as goal
+
+pub returns-in-Err-clause-refused : goal.returns-in-Err-clause-refused
+returns-in-Err-clause-refused c =
+    unmade_so (c.args.place + 1) _ (directive_of c.args.directive.now) c.in-Err.error c.check_refusal.result
+    c.requires.built c.in-Err.ensures.refused (omega arith) c.check_refusal.ensures

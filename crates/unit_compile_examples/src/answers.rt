@@ -1,0 +1,135 @@
+//! What texts are refused for, and how many checkers those have that aren't.
+
+use psl_model::Refusal;
+use std::alloc::Global;
+use std::test::Fail;
+use unit_compile::modules;
+
+static REFUSED: [(&[u8], Refusal); 16] = [
+    (b"", Refusal::Syntax { offset: 0 }),
+    (b"vunit u { assert always", Refusal::Syntax { offset: 23 }),
+    (
+        b"vunit u { assert always a # b; }",
+        Refusal::BadByte { offset: 26 },
+    ),
+    (
+        b"vunit u { assert forall i; }",
+        Refusal::LeftOut { offset: 17 },
+    ),
+    (
+        b"vunit u { wire a; wire a; }",
+        Refusal::DuplicateName { offset: 23 },
+    ),
+    (
+        b"vunit u { assert {a[*3:2]}; }",
+        Refusal::BadRange { offset: 23 },
+    ),
+    (
+        b"vunit u { assert always (go -> next[1048577](a)); }",
+        Refusal::CountTooLarge { offset: 36 },
+    ),
+    (
+        b"vunit u { assert 4'd16; }",
+        Refusal::BadLiteral { offset: 17 },
+    ),
+    (
+        b"vunit u { wire [7:0] d; assert d[8]; }",
+        Refusal::BadSelect { offset: 33 },
+    ),
+    (
+        b"vunit u { wire [64:0] d; }",
+        Refusal::TooWide { offset: 16 },
+    ),
+    (
+        b"vunit u { assert 1 < 2; }",
+        Refusal::ConstantArithmetic { offset: 19 },
+    ),
+    (b"vunit u { assert {a;b}; }", Refusal::Unbuilt),
+    (
+        b"vunit u { assert a; assert next a; assert b; }",
+        Refusal::Unbuilt,
+    ),
+    (
+        b"vunit u { assert {a;b} ; assert 1 < 2; }",
+        Refusal::ConstantArithmetic { offset: 34 },
+    ),
+    (
+        b"vunit u { assert a; l: assert b; l: assert c; }",
+        Refusal::DuplicateName { offset: 33 },
+    ),
+    (b"vunit u { } ;", Refusal::Syntax { offset: 12 }),
+];
+
+static ACCEPTED: [(&[u8], usize); 6] = [
+    (b"vunit u { }", 0),
+    (b"vunit u { assert always a; }", 1),
+    (
+        b"vunit u { l: assert a -> b; assert never c; assert (a || (always b)) && c; }",
+        3,
+    ),
+    (b"vunit u { property p = always a; assert p; assert p; }", 2),
+    (
+        b"vunit u { wire [3:0] cnt; assert always !(cnt + 1 == 0); }",
+        1,
+    ),
+    (
+        b"vunit u { wire [3:0] cnt; assert always !(cnt + 4'd1 == 4'd0) report \"wraps\"; }",
+        1,
+    ),
+];
+
+fn is_refused(alloc: Global, text: &[u8], refusal: &Refusal) -> bool {
+    match modules(alloc, text) {
+        Ok(_) => false,
+        Err(found) => found == *refusal,
+    }
+}
+
+fn is_accepted(alloc: Global, text: &[u8], count: usize) -> bool {
+    match modules(alloc, text) {
+        Ok(found) => found.len() == count,
+        Err(_) => false,
+    }
+}
+
+/// A front, a part many times and an end.
+fn repeated(
+    alloc: Global,
+    front: &[u8],
+    part: &[u8],
+    count: usize,
+    end: &[u8],
+) -> Result<Vec<u8>, Fail> {
+    let mut text = Vec::from_slice(alloc, front)?;
+    for _ in 0..count {
+        text.extend_from_slice(part)?;
+    }
+    text.extend_from_slice(end)?;
+    Ok(text)
+}
+
+#[test]
+fn texts_are_refused_at_their_first_fault(rt: HostRuntime) {
+    for (text, refusal) in &REFUSED {
+        if text.len() <= 1_048_576 {
+            assert!(rt; is_refused(rt.alloc(), text, refusal), "{text:?}");
+        }
+    }
+}
+
+#[test]
+fn units_have_a_checker_for_each_directive(rt: HostRuntime) {
+    for (text, count) in &ACCEPTED {
+        if text.len() <= 1_048_576 {
+            assert!(rt; is_accepted(rt.alloc(), text, *count), "{text:?}");
+        }
+    }
+}
+
+#[test]
+fn a_unit_has_256_directives_at_most(rt: HostRuntime) -> Result<(), Fail> {
+    let text = repeated(rt.alloc(), b"vunit u {", b" assert a;", 257, b" }")?;
+    let refusal = Refusal::TooManyDirectives { offset: 2570 };
+    assert!(rt; is_refused(rt.alloc(), &text, &refusal));
+    Ok(())
+}

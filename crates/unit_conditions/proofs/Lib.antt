@@ -1,0 +1,9 @@
+pub mod Tokens
+pub mod Phrases
+pub mod Items
+pub mod Signals
+pub mod Words
+pub mod Labels
+pub mod Depths
+pub mod Formulas
+pub mod Units
