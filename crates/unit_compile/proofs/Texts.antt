@@ -7,8 +7,9 @@ use Rattle.psl_lexer.specs.declared.kinds.LexError.{LexError}
 use Rattle.psl_lexer.specs.declared.kinds.LexError.TheVariants as lexer
 use Rattle.psl_lexer.specs.Splits.{Splits, Faults}
 use Rattle.psl_grammar.specs.RawUnit.{RawUnit}
-use Rattle.psl_grammar.specs.Units.{outside, IsUnit}
+use Rattle.psl_grammar.specs.Units.{IsUnit}
 use Rattle.psl_parser.specs.Depth.{IsToldRightly}
+use Rattle.psl_parser.specs.Seen.{seen}
 use Rattle.unit_reader.specs.declared.errors.ParseError.{ParseError}
 use Rattle.unit_reader.specs.declared.errors.ParseError.TheVariants as parser
 use Rattle.unit_rules.specs.declared.errors.UnitError.{UnitError}
@@ -36,7 +37,7 @@ token_fault text error r (inl memory) told = inl (told ∙ ap token_refusal memo
 token_fault text error r (inr first) told = inr (tokens (record { fault = error; first = first; told = told }))
 
 pub grammar_fault : (text : List ℕ) (ts : List Token) (error : ParseError) (r : Refusal) → Splits 0 text ts
-    → IsToldRightly (outside text ts) error → ((raw : RawUnit) → IsUnit text ts raw → error ≡ parser.OutOfMemory)
+    → IsToldRightly (seen text ts) error → ((raw : RawUnit) → IsUnit text ts raw → error ≡ parser.OutOfMemory)
     → r ≡ grammar_refusal text ts error → IsRight text r
 grammar_fault text ts (parser.Syntax token) r split rightly only told =
     inr (grammar (record {

@@ -8,8 +8,9 @@ use Rattle.psl_lexer.specs.declared.kinds.Token.{Token}
 use Rattle.psl_lexer.specs.declared.kinds.LexError.{LexError}
 use Rattle.psl_lexer.specs.Splits.{Splits, Faults}
 use Rattle.psl_grammar.specs.RawUnit.{RawUnit}
-use Rattle.psl_grammar.specs.Units.{outside, IsUnit}
+use Rattle.psl_grammar.specs.Units.{IsUnit}
 use Rattle.psl_parser.specs.Depth.{IsToldRightly}
+use Rattle.psl_parser.specs.Seen.{seen}
 use Rattle.unit_reader.specs.declared.errors.ParseError.{ParseError}
 use Rattle.unit_rules.specs.declared.errors.UnitError.{UnitError}
 use Rattle.unit_rules.specs.Source.{source}
@@ -26,14 +27,14 @@ pub record IsFaultOfTokens (text : List ℕ) (r : Refusal) : Type 0 where
   pub first : Faults 0 text fault
   pub told : r ≡ token_refusal fault
 
--- The tokens are no unit, which is exact. A fault of depth is told of a token that may be too deep, and one of syntax
--- of a token or of the end: which token it is isn't fixed.
+-- The tokens are no unit, which is exact. A fault of depth is told of the first token that is too deep, and one of syntax
+-- of a token or of the end that has no token before it that is too deep: else which token it is isn't fixed.
 pub record IsFaultOfGrammar (text : List ℕ) (r : Refusal) : Type 0 where
   pub tokens : List Token
   pub split : Splits 0 text tokens
   pub no_unit : (raw : RawUnit) → ¬ IsUnit text tokens raw
   pub fault : ParseError
-  pub rightly : IsToldRightly (outside text tokens) fault
+  pub rightly : IsToldRightly (seen text tokens) fault
   pub told : r ≡ grammar_refusal text tokens fault
 
 pub record IsFaultOfRules (text : List ℕ) (r : Refusal) : Type 0 where
