@@ -18,7 +18,7 @@ static LEAVES: [(Operand, &str); 3] = [
     ),
 ];
 
-static UNARY: [(Unary, Operand, &str); 15] = [
+static UNARY: [(Unary, Operand, &str); 21] = [
     (
         Unary::Not,
         Operand::A,
@@ -71,9 +71,19 @@ static UNARY: [(Unary, Operand, &str); 15] = [
         "Next { strong: false, count: 2, body: Subbase { node: Bool(Whole(1)) } }",
     ),
     (
+        Unary::Next(Reach::One, true),
+        Operand::B,
+        "Next { strong: true, count: 2, body: Subbase { node: Bool(Whole(1)) } }",
+    ),
+    (
         Unary::Next(Reach::All, true),
         Operand::B,
         "NextAll { strong: true, low: 2, high: 3, body: Subbase { node: Bool(Whole(1)) } }",
+    ),
+    (
+        Unary::Next(Reach::All, false),
+        Operand::B,
+        "NextAll { strong: false, low: 2, high: 3, body: Subbase { node: Bool(Whole(1)) } }",
     ),
     (
         Unary::Next(Reach::Some, false),
@@ -81,9 +91,19 @@ static UNARY: [(Unary, Operand, &str); 15] = [
         "NextSome { strong: false, low: 2, high: 3, seen: Whole(1) }",
     ),
     (
+        Unary::Next(Reach::Some, true),
+        Operand::B,
+        "NextSome { strong: true, low: 2, high: 3, seen: Whole(1) }",
+    ),
+    (
         Unary::EventOfA(Reach::One, false),
         Operand::B,
         "Event { strong: false, on: Whole(0), low: 2, high: 2, body: Subbase { node: Bool(Whole(1)) } }",
+    ),
+    (
+        Unary::EventOfA(Reach::One, true),
+        Operand::B,
+        "Event { strong: true, on: Whole(0), low: 2, high: 2, body: Subbase { node: Bool(Whole(1)) } }",
     ),
     (
         Unary::EventOfA(Reach::All, true),
@@ -91,13 +111,23 @@ static UNARY: [(Unary, Operand, &str); 15] = [
         "Event { strong: true, on: Whole(0), low: 2, high: 3, body: Subbase { node: Bool(Whole(1)) } }",
     ),
     (
+        Unary::EventOfA(Reach::All, false),
+        Operand::B,
+        "Event { strong: false, on: Whole(0), low: 2, high: 3, body: Subbase { node: Bool(Whole(1)) } }",
+    ),
+    (
         Unary::EventOfA(Reach::Some, false),
         Operand::B,
         "EventSome { strong: false, on: Whole(0), low: 2, high: 3, seen: Whole(1) }",
     ),
+    (
+        Unary::EventOfA(Reach::Some, true),
+        Operand::B,
+        "EventSome { strong: true, on: Whole(0), low: 2, high: 3, seen: Whole(1) }",
+    ),
 ];
 
-static BINARY: [(Binary, Operand, Operand, &str); 13] = [
+static BINARY: [(Binary, Operand, Operand, &str); 14] = [
     (
         Binary::And,
         Operand::A,
@@ -109,6 +139,12 @@ static BINARY: [(Binary, Operand, Operand, &str); 13] = [
         Operand::A,
         Operand::B,
         "OrBool(Whole(0), Subbase { node: Bool(Whole(1)) })",
+    ),
+    (
+        Binary::Or,
+        Operand::A,
+        Operand::AlwaysB,
+        "OrBool(Whole(0), Subbase { node: Always(Subbase { node: Bool(Whole(1)) }) })",
     ),
     (
         Binary::Or,

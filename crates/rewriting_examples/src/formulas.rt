@@ -75,12 +75,20 @@ fn suffix(later: bool, body: Subformula) -> Formula {
     }
 }
 
+// The last of the cycles from the second on: that of one cycle alone is the second.
+fn last(reach: Reach) -> u32 {
+    match reach {
+        Reach::One => 2,
+        Reach::All | Reach::Some => 3,
+    }
+}
+
 fn next(reach: Reach, strong: bool, body: Subformula) -> Formula {
     Formula::Next {
         strong,
         reach,
         low: 2,
-        high: 3,
+        high: last(reach),
         body,
     }
 }
@@ -91,7 +99,7 @@ fn event(reach: Reach, strong: bool, body: Subformula) -> Formula {
         strong,
         reach,
         low: 2,
-        high: 3,
+        high: last(reach),
         body,
     }
 }
