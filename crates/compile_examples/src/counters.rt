@@ -124,15 +124,15 @@ endmodule
 
 // The counter is at 15 twice, and one more than 15 is 16 in 32 bits.
 static NEVER: [(u8, bool); 5] = [
-    (14, false),
     (15, false),
+    (14, false),
     (0, false),
     (15, false),
     (7, false),
 ];
 
 // In four bits one more than 15 is 0.
-static TWICE: [(u8, bool); 5] = [(14, false), (15, true), (0, false), (15, true), (7, false)];
+static TWICE: [(u8, bool); 5] = [(15, true), (14, false), (0, false), (15, true), (7, false)];
 
 #[test]
 fn a_number_without_a_size_is_written_so(rt: HostRuntime) -> Result<(), Fail> {

@@ -10,7 +10,7 @@ use Rattle.verilog_text.specs.View.{module_of}
 use Rattle.verilog_text.specs.declared.module.Module as code
 use Rattle.checker_meaning.specs.Headline.{IsCompiled}
 use Rattle.psl_units.specs.StandsForUnit.{StandsForUnit}
-use Rattle.unit_compile.specs.Made.{IsAccepted, AreModulesOf}
+use Rattle.unit_compile.specs.Made.{IsAccepted, AreModulesOf, IsTextOfModules}
 use Rattle.unit_compile.specs.Refused.{IsRefused, ComesFor}
 
 module _ {T : Type 0} (plain : T → List Module) (text : List ℕ) where
@@ -39,3 +39,15 @@ printed items text given own law same right (Ok t) h =
     law text (items t) (map module_of own) right
     (h ∙ ap (λ (ms : List code.Module). flat_map spelling (map module_of ms)) same)
 printed items text given own law same right (Err e) h = tt
+
+-- the same text, told by the modules
+pub printed_so : {T : Type 0} (items : T → List ℕ) (text : List ℕ) (given own : List code.Module) → given ≡ own
+    → AreModulesOf text (map module_of own) → (r : Result T Refusal)
+    → IfOk r (λ t. items t ≡ flat_map spelling (map module_of given)) → IfOk r (λ t. IsTextOfModules text (items t))
+printed_so items text given own same right (Ok t) h =
+    record {
+      modules = map module_of own;
+      made = right;
+      spelled = h ∙ ap (λ (ms : List code.Module). flat_map spelling (map module_of ms)) same;
+    }
+printed_so items text given own same right (Err e) h = tt

@@ -45,6 +45,7 @@ grammar_fault text ts (parser.Syntax token) r split rightly only told =
       split = split;
       no_unit = λ raw w. absurd (cc (only raw w));
       fault = parser.Syntax token;
+      known = λ e. cc e;
       rightly = rightly;
       told = told;
     }))
@@ -54,6 +55,7 @@ grammar_fault text ts (parser.TooDeep token) r split rightly only told =
       split = split;
       no_unit = λ raw w. absurd (cc (only raw w));
       fault = parser.TooDeep token;
+      known = λ e. cc e;
       rightly = rightly;
       told = told;
     }))

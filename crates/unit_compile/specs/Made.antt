@@ -1,10 +1,12 @@
 -- The modules of a text: one checker for each directive of the unit for which it stands.
 --     IsAccepted text              the text stands for a unit of which checkers are made
 --     AreModulesOf text modules    and these are its modules
-use Rattle.std.specs.Prelude.{◌≡◌, ◌≢◌, ◌≤◌, ℕ, suc, None, List, [], ◌∷◌, map, sum, AllPairs}
+--     IsTextOfModules text out     and this is the text of its modules
+use Rattle.std.specs.Prelude.{◌≡◌, ◌≢◌, ◌≤◌, ℕ, suc, None, List, [], ◌∷◌, map, flat_map, sum, AllPairs}
 use Rattle.psl_model.specs.Unit.{PslUnit, Directive}
 use Rattle.verilog_text.specs.Module.{Module, IsLawful}
 use Rattle.verilog_text.specs.State.{register_widths}
+use Rattle.verilog_text.specs.Text.{spelling}
 use Rattle.checker_meaning.specs.Headline.{IsCheckerOf}
 use Rattle.psl_units.specs.StandsForUnit.{StandsForUnit}
 use Rattle.unit_compile.specs.Built.{AreBuilt, bits_of, first_full}
@@ -32,3 +34,9 @@ pub record AreModulesOf (text : List ℕ) (modules : List Module) : Type 0 where
   pub accepted : IsAccepted text
   pub made : AreMade accepted.unit 1 accepted.unit.directives modules
   pub distinct : AllPairs (λ m n. m ≢ n) (map (λ (m : Module). m.name) modules)
+
+-- the texts of such modules, one behind the other
+pub record IsTextOfModules (text checkers : List ℕ) : Type 0 where
+  pub modules : List Module
+  pub made : AreModulesOf text modules
+  pub spelled : checkers ≡ flat_map spelling modules

@@ -3,7 +3,7 @@
 -- that isn't built, and the first directive whose checker would have too many bits of registers.
 --     IsRefused text r         r is told for such a reason
 --     ComesFor text due r      r may be answered where `due` is told for such a reason
-use Rattle.std.specs.Prelude.{◌≡◌, ◌⊎◌, ℕ, Some, List}
+use Rattle.std.specs.Prelude.{◌≡◌, ◌≢◌, ◌⊎◌, ℕ, Some, List}
 use Rattle.psl_lexer.specs.declared.kinds.Token.{Token}
 use Rattle.psl_lexer.specs.declared.kinds.LexError.{LexError}
 use Rattle.psl_lexer.specs.Splits.{Splits, Faults}
@@ -12,6 +12,7 @@ use Rattle.psl_grammar.specs.Units.{IsUnit}
 use Rattle.psl_parser.specs.Depth.{IsToldRightly}
 use Rattle.psl_parser.specs.Seen.{seen}
 use Rattle.unit_reader.specs.declared.errors.ParseError.{ParseError}
+use Rattle.unit_reader.specs.declared.errors.ParseError.TheVariants as parser
 use Rattle.unit_rules.specs.declared.errors.UnitError.{UnitError}
 use Rattle.unit_rules.specs.Source.{source}
 use Rattle.unit_rules.specs.Limits.{refusal}
@@ -27,13 +28,14 @@ pub record IsFaultOfTokens (text : List ℕ) (r : Refusal) : Type 0 where
   pub first : Faults 0 text fault
   pub told : r ≡ token_refusal fault
 
--- The tokens are no unit, which is exact. A fault of depth is told of the first token that is too deep, and one of syntax
--- of a token or of the end that has no token before it that is too deep: else which token it is isn't fixed.
+-- The tokens are no unit, which is exact. A fault of depth is told of the first token that is too deep, and one of
+-- syntax of a token or of the end that has no token before it that is too deep: else which token it is isn't fixed.
 pub record IsFaultOfGrammar (text : List ℕ) (r : Refusal) : Type 0 where
   pub tokens : List Token
   pub split : Splits 0 text tokens
   pub no_unit : (raw : RawUnit) → ¬ IsUnit text tokens raw
   pub fault : ParseError
+  pub known : fault ≢ parser.OutOfMemory
   pub rightly : IsToldRightly (seen text tokens) fault
   pub told : r ≡ grammar_refusal text tokens fault
 

@@ -12,7 +12,7 @@ ghost use Rattle.verilog_text.specs.Text.{spelling};
 ghost use Rattle.verilog_text.specs.View.{module_of};
 ghost use Rattle.checker_meaning.specs.Headline.{IsCompiled};
 ghost use Rattle.psl_units.specs.StandsForUnit.{StandsForUnit};
-ghost use Rattle.unit_compile.specs.Made.{IsAccepted, AreModulesOf};
+ghost use Rattle.unit_compile.specs.Made.{IsAccepted, AreModulesOf, IsTextOfModules};
 ghost use Rattle.unit_compile.specs.Refused.{IsRefused, ComesFor};
 
 use crate::laws::{
@@ -120,6 +120,7 @@ fn print_modules(alloc: Global, modules: &[Module]) -> Result<Vec<u8>, Refusal>
 pub fn compile(alloc: Global, text: &[u8]) -> Result<Vec<u8>, Refusal>
     requires short { length text.now ≤ unit_text_limit }
     ensures compiled { IfOk result (λ checkers. IsCompiled StandsForUnit text.now checkers.items) }
+    ensures made { IfOk result (λ checkers. IsTextOfModules text.now checkers.items) }
     ensures refused { IfErr result (λ r. (r ≡ OutOfMemory) ⊎ IsRefused text.now r) }
     ensures accepted { IsAccepted text.now → IsOkUnless result OutOfMemory }
     ensures due { (due : Refusal) → IsRefused text.now due → IsErrAnd result (ComesFor text.now due) }
