@@ -94,9 +94,9 @@ blanked _ = record {
 
 -- what is no name is told by its blank
 pub blank_back : (s t : Symbol) → blank s ≡ t → (t ≡ symbol.Name → ⊥) → s ≡ t
-blank_back symbol.SequenceName t e no = absurd (no (sym e))
-blank_back symbol.PropertyName t e no = absurd (no (sym e))
-blank_back _ t e no = e
+blank_back symbol.SequenceName t e not_so = absurd (not_so (sym e))
+blank_back symbol.PropertyName t e not_so = absurd (not_so (sym e))
+blank_back _ t e not_so = e
 
 both_same : (x y u v : Bool) → x ≡ y → u ≡ v → (x && u) ≡ (y && v)
 both_same x y u v e f = ap (λ (t : Bool). t && u) e ∙ ap (λ (t : Bool). y && t) f

@@ -54,11 +54,11 @@ module _ (test : ℕ → Bool) where
       omega arith
 
   more_zero : (a k : ℕ) → test k ≡ false → count_in test a k ≡ 0 → count_in test a (suc k) ≡ 0
-  more_zero a k no before =
+  more_zero a k not_so before =
       elim (cases_lt k a) [
         inl h ↦ count_none a (suc k) (omega arith)
         | inr h ↦
-        let more = count_more a k h in let here : one (test k) ≡ one false = ap one no in omega arith
+        let more = count_more a k h in let here : one (test k) ≡ one false = ap one not_so in omega arith
       ]
 
   pub count_zero : (a c : ℕ) → ((k : ℕ) → a ≤ k → k < c → test k ≡ false) → count_in test a c ≡ 0
@@ -70,10 +70,10 @@ module _ (test : ℕ → Bool) where
       ]
 
   pub count_some : (a c k : ℕ) → a ≤ k → k < c → test k ≡ true → 0 < count_in test a c
-  count_some a c k low high yes =
+  count_some a c k low high is_so =
       let split = count_split a k c low (omega arith) in
       let first = count_first k c high in
-      let here : one (test k) ≡ one true = ap one yes in
+      let here : one (test k) ≡ one true = ap one is_so in
       omega arith
 
   pub count_small : (a c : ℕ) → a ≤ c → count_in test a c + a ≤ c
@@ -91,10 +91,10 @@ module _ (test : ℕ → Bool) where
   not_and false = refl
 
   none_here : (a k : ℕ) → (a ≤ k → test k ≡ false) → not (nat_le a k && test k) ≡ true
-  none_here a k no =
+  none_here a k not_so =
       elim (cases_lt k a) [
         inl h ↦ ap (λ (b : Bool). not (b && test k)) (lt-leb a k h)
-        | inr h ↦ ap (λ (b : Bool). not (nat_le a k && b)) (no h) ∙ not_and (nat_le a k)
+        | inr h ↦ ap (λ (b : Bool). not (nat_le a k && b)) (not_so h) ∙ not_and (nat_le a k)
       ]
 
   pub none_from : (a c : ℕ) → ((k : ℕ) → a ≤ k → k < c → test k ≡ false) → none_in test a c ≡ true
@@ -104,13 +104,13 @@ module _ (test : ℕ → Bool) where
       (none_from a k (λ n low high. each n low (omega arith))) (none_here a k (λ le. each k le (omega arith)))
 
   here_not : (a k : ℕ) → a ≤ k → not (nat_le a k && test k) ≡ true → test k ≡ false
-  here_not a k le yes =
-      sym (ap (λ (b : Bool). b && test k) (le-leb a k le)) ∙ not-true (nat_le a k && test k) yes
+  here_not a k le is_so =
+      sym (ap (λ (b : Bool). b && test k) (le-leb a k le)) ∙ not-true (nat_le a k && test k) is_so
 
   pub none_at : (a c k : ℕ) → none_in test a c ≡ true → a ≤ k → k < c → test k ≡ false
-  none_at a zero k yes low high = absurd (omega arith)
-  none_at a (suc c) k yes low high =
-      let parts = and_parts (none_in test a c) (not (nat_le a c && test c)) yes in
+  none_at a zero k is_so low high = absurd (omega arith)
+  none_at a (suc c) k is_so low high =
+      let parts = and_parts (none_in test a c) (not (nat_le a c && test c)) is_so in
       elim (cases_lt k c) [
         inl h ↦ none_at a c k parts.0 low h
         | inr h ↦
@@ -119,8 +119,8 @@ module _ (test : ℕ → Bool) where
       ]
 
   pub none_not : (a c k : ℕ) → a ≤ k → k < c → test k ≡ true → none_in test a c ≡ false
-  none_not a c k low high yes =
-      by_test (none_in test a c) (λ t. absurd (both_ways (test k) (none_at a c k t low high) yes)) (λ f. f)
+  none_not a c k low high is_so =
+      by_test (none_in test a c) (λ t. absurd (both_ways (test k) (none_at a c k t low high) is_so)) (λ f. f)
 
 pub count_same : (s t : ℕ → Bool) (a c : ℕ) → ((k : ℕ) → a ≤ k → k < c → s k ≡ t k) → count_in s a c ≡ count_in t a c
 count_same s t a zero same = refl

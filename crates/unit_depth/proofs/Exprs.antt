@@ -74,14 +74,14 @@ module _ (x : Setting) where
   select_told : (room i j k : ℕ) → Fresh x i → At x.symbols i symbol.Name → At x.symbols (i + 1) symbol.OpenBracket
       → Told x.symbols 1 room 15 (i + 2) j → At x.symbols j symbol.CloseBracket → ends_form x.symbols j ≡ false
       → k ≡ suc j → Told x.symbols 1 room 0 i k
-  select_told room i j k start at open inside shut unformed same =
+  select_told room i j k start at opener inside shut unformed same =
       told_join x.symbols 1 room 0 i (i + 1) k
       (told_still x room 0 i (i + 1) (omega arith) (ap is_still at) (λ le. ap is_colon at)
       (not_behind x.symbols 0 i start.behind))
-      (told_square x room 0 (i + 1) (i + 2) j k (omega arith) same (square_of (sy x (i + 1)) (ap t.is_square open))
-      (form_off x (i + 1) (head_off x (i + 1) (ap is_next open) (ap is_close_parenthesis open))
-      (ap is_close_bracket open))
-      (tame_by x.symbols 0 (i + 1) (let e = loose_at x.symbols (i + 1) symbol.OpenBracket open refl in omega arith))
+      (told_square x room 0 (i + 1) (i + 2) j k (omega arith) same (square_of (sy x (i + 1)) (ap t.is_square opener))
+      (form_off x (i + 1) (head_off x (i + 1) (ap is_next opener) (ap is_close_parenthesis opener))
+      (ap is_close_bracket opener))
+      (tame_by x.symbols 0 (i + 1) (let e = loose_at x.symbols (i + 1) symbol.OpenBracket opener refl in omega arith))
       inside shut unformed)
 
   name_head : (i : ℕ) → At x.symbols i symbol.Name → is_head x.symbols i ≡ false
@@ -117,31 +117,31 @@ module _ (x : Setting) where
   bit_told : (room i : ℕ) → Fresh x i → At x.symbols i symbol.Name → At x.symbols (i + 1) symbol.OpenBracket
       → At x.symbols (i + 2) symbol.Number → At x.symbols (i + 3) symbol.CloseBracket
       → ExprTold room 0 (name i (Some (i + 2, None))) i (i + 4)
-  bit_told room i start at open number shut =
+  bit_told room i start at opener number shut =
       let unformed = bit_unformed i start.inside at shut in
       record {
         some = omega arith;
         behind = square_behind (i + 3) (i + 4) (omega arith) shut unformed;
-        told = select_told room i (i + 3) (i + 4) start at open
+        told = select_told room i (i + 3) (i + 4) start at opener
             (told_inside x room (i + 2) (i + 3) (omega arith) (ap is_still number)) shut unformed (omega arith);
-        fits = λ more f. bit at open number shut;
+        fits = λ more f. bit at opener number shut;
       }
 
   part_told : (room i : ℕ) → Fresh x i → At x.symbols i symbol.Name → At x.symbols (i + 1) symbol.OpenBracket
       → At x.symbols (i + 2) symbol.Number → At x.symbols (i + 3) symbol.Colon → At x.symbols (i + 4) symbol.Number
       → At x.symbols (i + 5) symbol.CloseBracket → ExprTold room 0 (name i (Some (i + 2, Some (i + 4)))) i (i + 6)
-  part_told room i start at open high colon low shut =
+  part_told room i start at opener high colon low shut =
       let unformed = part_unformed i (name_head i at) colon shut in
       record {
         some = omega arith;
         behind = square_behind (i + 5) (i + 6) (omega arith) shut unformed;
-        told = select_told room i (i + 5) (i + 6) start at open
+        told = select_told room i (i + 5) (i + 6) start at opener
             (told_join x.symbols 1 room 15 (i + 2) (i + 3) (i + 5)
             (told_inside x room (i + 2) (i + 3) (omega arith) (ap is_still high))
             (told_join x.symbols 1 room 15 (i + 3) (i + 4) (i + 5)
             (told_inside x room (i + 3) (i + 4) (omega arith) (ap is_still colon))
             (told_inside x room (i + 4) (i + 5) (omega arith) (ap is_still low)))) shut unformed (omega arith);
-        fits = λ more f. part at open high colon low shut;
+        fits = λ more f. part at opener high colon low shut;
       }
 
   -- ---- parentheses and prefixes
@@ -246,7 +246,7 @@ module _ (x : Setting) where
 
   record Branches (room q c j : ℕ) : Type 0 where
     kept : Kept x.symbols 1 (q + 1) j
-    part : Part x.symbols 10 1 0 (q + 1) j
+    inner : Part x.symbols 10 1 0 (q + 1) j
     spanned : Spanned x.symbols room (q + 1) j
 
   branches : (room q c j : ℕ) (y n : RawExpr) → At x.symbols c symbol.Colon → ExprTold room 10 y (q + 1) c
@@ -260,14 +260,14 @@ module _ (x : Setting) where
         kept = kept_join x.symbols 1 (q + 1) c j a.told.kept
             (kept_join x.symbols 1 c (c + 1) j
             (subst (λ (m : ℕ). Kept x.symbols 1 c m) next (kept_token x.symbols c still.level)) b.told.kept);
-        part = part_join x.symbols 10 1 1 0 (q + 1) c j (part_shift x.symbols 10 1 (q + 1) c a.told.part)
+        inner = part_join x.symbols 10 1 1 0 (q + 1) c j (part_shift x.symbols 10 1 (q + 1) c a.told.part)
             (part_join x.symbols 10 1 0 0 c (c + 1) j
             (subst (λ (m : ℕ). Part x.symbols 10 1 0 c m) next
             (part_token x.symbols 10 1 0 c still.quiet.opens still.quiet.closes
-            (λ behind no. absurd (both_ways (is_colon (sy x c)) (no refl) (ap is_colon colon)))
+            (λ behind not_so. absurd (both_ways (is_colon (sy x c)) (not_so refl) (ap is_colon colon)))
             (λ small. let u : one (is_question (sy x c)) ≡ one false = ap one still.question in
             let v : one (is_colon (sy x c)) ≡ one true = ap one (ap is_colon colon) in omega arith)
-            (λ small yes. omega arith)))
+            (λ small is_so. omega arith)))
             b.told.part);
         spanned = spanned_join x.symbols room (q + 1) c j (omega arith) (omega arith) a.told.spanned
             (spanned_join x.symbols room c (c + 1) j (omega arith) (omega arith)
@@ -290,7 +290,7 @@ module _ (x : Setting) where
       let le = a.some in
       let le2 = b.some in
       let le3 = d.some in
-      let inside = subst (λ (m : ℕ). Part x.symbols 10 1 0 m j) back both.part in
+      let inside = subst (λ (m : ℕ). Part x.symbols 10 1 0 m j) back both.inner in
       record {
         some = omega arith;
         behind = d.behind;
@@ -305,8 +305,8 @@ module _ (x : Setting) where
               (tame_by x.symbols 10 q (let e = loose_at x.symbols q symbol.Question at refl in omega arith))
               (λ small. let u : one (is_question (sy x q)) ≡ one true = ap one (ap is_question at) in
               let v : one (is_colon (sy x q)) ≡ one false = ap one w.colon in omega arith)
-              (λ small yes. absurd (both_ways (is_colon (sy x q)) w.colon yes))))
-              both.part);
+              (λ small is_so. absurd (both_ways (is_colon (sy x q)) w.colon is_so))))
+              both.inner);
           spanned = spanned_join x.symbols (suc room) i q j (omega arith) (omega arith) a.told.spanned
               (spanned_phrase x.symbols room 10 q j (omega arith) (word_reach x q 10 w)
               (phrase_ends x.symbols 10 10 1 0 q j inside d.behind over (λ e. (omega arith, omega arith)))
@@ -315,7 +315,7 @@ module _ (x : Setting) where
         fits = λ more f.
             let z =
                 fits_after x.symbols more 10 1 0 q (q + 1) j j (omega arith) (omega arith) (omega arith) (omega arith)
-                (word_reach x q 10 w) both.part (fits_part x.symbols more i q j j (omega arith) (omega arith) f) in
+                (word_reach x q 10 w) both.inner (fits_part x.symbols more i q j j (omega arith) (omega arith) f) in
             let test = a.fits more (fits_part x.symbols more i i q j (omega arith) (omega arith) f) in
             subst (λ (m : ℕ). IsExpr x.symbols m 10 (choice q t y n) i j) (sym z.1)
             (chosen (subst (λ (m : ℕ). IsExpr x.symbols m 9 t i q) z.1 test) at

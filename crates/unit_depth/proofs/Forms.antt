@@ -70,18 +70,18 @@ module _ (x : Setting) where
 
   form_alone : (n m : ℕ) → m ≡ suc n → is_head x.symbols n ≡ true → is_open_bracket (sy x m) ≡ false
       → ends_form x.symbols n ≡ true
-  form_alone n m same head no =
+  form_alone n m same head not_so =
       let e : n + 1 ≡ m = omega arith in
-      let f : is_open_bracket (sy x (n + 1)) ≡ false = ap (λ (k : ℕ). is_open_bracket (sy x k)) e ∙ no in
+      let f : is_open_bracket (sy x (n + 1)) ≡ false = ap (λ (k : ℕ). is_open_bracket (sy x k)) e ∙ not_so in
       alone (is_head x.symbols n) (is_count x.symbols (n + 1)) (is_range x.symbols (n + 1)) (tails n) head
       (count_off_0 x (n + 1) f) (range_off_0 x (n + 1) f)
 
   form_held : (n : ℕ) → (is_count x.symbols (n + 1) || is_range x.symbols (n + 1)) ≡ true
       → is_close_bracket (sy x n) ≡ false → ends_form x.symbols n ≡ false
-  form_held n more no =
+  form_held n more not_so =
       held (is_head x.symbols n) (is_count x.symbols (n + 1) || is_range x.symbols (n + 1))
       (is_head x.symbols (n - 3) && is_count x.symbols (n - 2))
-      (is_head x.symbols (n - 5) && is_range x.symbols (n - 4)) more (count_tail x n no) (range_tail x n no)
+      (is_head x.symbols (n - 5) && is_range x.symbols (n - 4)) more (count_tail x n not_so) (range_tail x n not_so)
 
   count_is : (h : ℕ) → IsCount x.symbols h → is_count x.symbols h ≡ true
   count_is h c =
@@ -127,8 +127,8 @@ module _ (x : Setting) where
   counts_by : (h f last k : ℕ) → f ≡ suc h → k ≡ suc last → f ≤ last → x.brace ≤ h
       → At x.symbols h symbol.OpenBracket → ((room : ℕ) → Told x.symbols 1 room 15 f last)
       → At x.symbols last symbol.CloseBracket → ends_form x.symbols last ≡ true → Counts h last k
-  counts_by h f last k same same2 le inside open p shut formed =
-      let square = square_of (sy x h) (ap t.is_square open) in
+  counts_by h f last k same same2 le inside opener p shut formed =
+      let square = square_of (sy x h) (ap t.is_square opener) in
       let any = p 0 in
       record {
         ends = same2;
@@ -136,7 +136,7 @@ module _ (x : Setting) where
         kept = square_kept x h f last k same same2 square.level any.kept shut;
         part = λ tame. square_part x 11 h f last k same same2 square tame any.part shut;
         spanned = λ room. let own = p room in
-            square_spanned x room h f last same le square (bracket_form h open) own.spanned;
+            square_spanned x room h f last same le square (bracket_form h opener) own.spanned;
         reach = formed_reach last symbol.CloseBracket shut formed;
         behind = fresh x last k same2 (formed_behind last symbol.CloseBracket shut formed) (ap is_event shut)
             (omega arith);
@@ -252,9 +252,9 @@ module _ (x : Setting) where
 
   next_form : (room i : ℕ) → Fresh x i → At x.symbols i symbol.Next → is_open_bracket (sy x (i + 1)) ≡ false
       → FormTold room None None None i (i + 1)
-  next_form room i start at no =
+  next_form room i start at not_so =
       let next : suc i ≡ i + 1 = omega arith in
-      let formed = form_alone i (i + 1) (omega arith) (next_head i (ap is_next at)) no in
+      let formed = form_alone i (i + 1) (omega arith) (next_head i (ap is_next at)) not_so in
       let level = subst (λ (s : Symbol). Level s) (sym at) (level_of symbol.Next refl) in
       record {
         last = i;
@@ -263,7 +263,7 @@ module _ (x : Setting) where
         kept = subst (λ (m : ℕ). Kept x.symbols 1 i m) next (kept_token x.symbols i level);
         part = subst (λ (m : ℕ). Part x.symbols 11 0 0 i m) next
             (part_token x.symbols 11 0 0 i (ap opens_bracket at) (ap closes_bracket at)
-            (not_behind x.symbols 11 i start.behind) (λ small. absurd (omega arith)) (λ small yes. absurd (omega arith)));
+            (not_behind x.symbols 11 i start.behind) (λ small. absurd (omega arith)) (λ small is_so. absurd (omega arith)));
         spanned = spanned_none x.symbols room i;
         reach = formed_reach i symbol.Next at formed;
         behind = fresh x i (i + 1) (omega arith) (formed_behind i symbol.Next at formed) (ap is_event at)
@@ -337,10 +337,10 @@ module _ (x : Setting) where
 
   event_form : (room i m : ℕ) (e : RawExpr) → Fresh x i → At x.symbols i symbol.Event
       → is_open_bracket (sy x m) ≡ false → Round room e (i + 1) m → FormTold room (Some e) None None i m
-  event_form room i m e start at no r =
+  event_form room i m e start at not_so r =
       let lt = r.first in
       let word = event_word room i start (ap is_still at) (ap is_colon at) in
-      let formed = form_alone r.close m r.ends (close_head r.close r.event) no in
+      let formed = form_alone r.close m r.ends (close_head r.close r.event) not_so in
       record {
         last = r.close;
         ends = r.ends;
@@ -407,18 +407,18 @@ module _ (x : Setting) where
   pub form_told : {room : ℕ} {on : Option RawExpr} {low high : Option ℕ} {i m : ℕ}
       → IsNextForm x.symbols room on low high i m → Fresh x i → is_open_bracket (sy x m) ≡ false
       → FormTold room on low high i m
-  form_told {room = room} (g.IsNextForm.next {i = i} a) start no = next_form room i start a no
-  form_told {room = room} (g.next_count {i = i} a c) start no = next_count_form room i start a c
-  form_told {room = room} (g.next_range {i = i} a c) start no = next_range_form room i start a c
-  form_told {room = room} (g.event {e = e} {i = i} {m = m} a p) start no =
-      event_form room i m e start a no
+  form_told {room = room} (g.IsNextForm.next {i = i} a) start not_so = next_form room i start a not_so
+  form_told {room = room} (g.next_count {i = i} a c) start not_so = next_count_form room i start a c
+  form_told {room = room} (g.next_range {i = i} a c) start not_so = next_range_form room i start a c
+  form_told {room = room} (g.event {e = e} {i = i} {m = m} a p) start not_so =
+      event_form room i m e start a not_so
       (round_told i p (omega arith) (let lt = start.inside in omega arith) (ap is_still a) (ap ends_operand a)
       (ap is_event a))
-  form_told {room = room} (g.event_count {e = e} {i = i} {m = m} a p c) start no =
+  form_told {room = room} (g.event_count {e = e} {i = i} {m = m} a p c) start not_so =
       event_count_form room i m e start a c
       (round_told i p (omega arith) (let lt = start.inside in omega arith) (ap is_still a) (ap ends_operand a)
       (ap is_event a))
-  form_told {room = room} (g.event_range {e = e} {i = i} {m = m} a p c) start no =
+  form_told {room = room} (g.event_range {e = e} {i = i} {m = m} a p c) start not_so =
       event_range_form room i m e start a c
       (round_told i p (omega arith) (let lt = start.inside in omega arith) (ap is_still a) (ap ends_operand a)
       (ap is_event a))

@@ -149,7 +149,7 @@ module _ (x : Setting) where
   clock_told : (room m j e name : ℕ) → e ≡ suc j → is_wire (sy x m) ≡ false → At x.symbols j symbol.Semicolon
       → Kept x.symbols 1 m j → (1 ≤ room → Spanned x.symbols room m j) → IsItem x.symbols (raw.clock name) m e
       → ItemTold room (raw.clock name) m e
-  clock_told room m j e name same no shut kept spanned make = record {
+  clock_told room m j e name same not_so shut kept spanned make = record {
     last = j;
     ends = same;
     first = kept.le;
@@ -157,7 +157,7 @@ module _ (x : Setting) where
     kept = kept;
     spanned = spanned;
     fits = λ more f. spell.clock make;
-    long = inr (no, λ le. le, λ le. le);
+    long = inr (not_so, λ le. le, λ le. le);
   }
 
   head_told : (room i : ℕ) → At x.symbols i symbol.Default → At x.symbols (i + 1) symbol.Clock

@@ -22,7 +22,7 @@ ends_here symbols n = is_semicolon (symbol_at symbols n) && nat_eq (way symbols 
 pub record Kept (symbols : List Symbol) (d i j : ℕ) : Type 0 where
   pub le : i ≤ j
   pub own : d ≤ (way symbols i).0 → (n : ℕ) → i ≤ n → n < j → (way symbols n).1 + i ≡ (way symbols i).1 + n
-  pub open : d ≤ (way symbols i).0 → (n : ℕ) → i ≤ n → n < j → 0 < (way symbols n).0
+  pub nested : d ≤ (way symbols i).0 → (n : ℕ) → i ≤ n → n < j → 0 < (way symbols n).0
   pub on : d ≤ (way symbols i).0 → (n : ℕ) → i ≤ n → n < j → ends_here symbols n ≡ false
   pub braces : d ≤ (way symbols i).0 → (way symbols j).0 ≡ (way symbols i).0
   pub behind : d ≤ (way symbols i).0 → (way symbols j).1 + i ≡ (way symbols i).1 + j
@@ -32,7 +32,7 @@ module _ (symbols : List Symbol) where
   kept_none d i = record {
     le = omega arith;
     own = λ enough n low high. absurd (omega arith);
-    open = λ enough n low high. absurd (omega arith);
+    nested = λ enough n low high. absurd (omega arith);
     on = λ enough n low high. absurd (omega arith);
     braces = λ enough. refl;
     behind = λ enough. refl;
@@ -47,9 +47,9 @@ module _ (symbols : List Symbol) where
           let x = p.braces enough in
               let y = p.behind enough in let z = q.own (omega arith) n h high in omega arith
         ];
-    open = λ enough n low high. elim (cases_lt n m) [
-          inl h ↦ p.open enough n low h
-          | inr h ↦ q.open (let x = p.braces enough in omega arith) n h high
+    nested = λ enough n low high. elim (cases_lt n m) [
+          inl h ↦ p.nested enough n low h
+          | inr h ↦ q.nested (let x = p.braces enough in omega arith) n h high
         ];
     on = λ enough n low high. elim (cases_lt n m) [
           inl h ↦ p.on enough n low h
@@ -67,7 +67,7 @@ module _ (symbols : List Symbol) where
   kept_more d e i j le p = record {
     le = p.le;
     own = λ enough n low high. p.own (omega arith) n low high;
-    open = λ enough n low high. p.open (omega arith) n low high;
+    nested = λ enough n low high. p.nested (omega arith) n low high;
     on = λ enough n low high. p.on (omega arith) n low high;
     braces = λ enough. p.braces (omega arith);
     behind = λ enough. p.behind (omega arith);
@@ -82,7 +82,7 @@ module _ (symbols : List Symbol) where
     le = omega arith;
     own = λ enough k low high. let e : k ≡ n = omega arith in
         ap (λ (m : ℕ). (way symbols m).1 + n) e ∙ ap (λ (m : ℕ). (way symbols n).1 + m) (sym e);
-    open = λ enough k low high. let e : n ≡ k = omega arith in
+    nested = λ enough k low high. let e : n ≡ k = omega arith in
         subst (λ (m : ℕ). 0 < (way symbols m).0) e (omega arith);
     on = λ enough k low high. let e : n ≡ k = omega arith in
         subst (λ (m : ℕ). ends_here symbols m ≡ false) e (on (way symbols n).0 enough);
@@ -122,9 +122,9 @@ module _ (symbols : List Symbol) where
   )
 
   brace_on : (n : ℕ) (s : Symbol) → At symbols n s → is_semicolon s ≡ false → ends_here symbols n ≡ false
-  brace_on n s at no =
+  brace_on n s at not_so =
       and_left (is_semicolon (symbol_at symbols n)) (nat_eq (way symbols n).0 1)
-      (ap (λ (t : Symbol). is_semicolon t) at ∙ no)
+      (ap (λ (t : Symbol). is_semicolon t) at ∙ not_so)
 
   pub kept_braces : (i j : ℕ) → At symbols i symbol.OpenBrace → Kept symbols 2 (suc i) j
       → At symbols j symbol.CloseBrace → Kept symbols 1 i (suc j)
@@ -141,11 +141,11 @@ module _ (symbols : List Symbol) where
                 ∙ ap (λ (m : ℕ). (way symbols i).1 + m) e
           ]
         ];
-    open = λ enough n low high. let w = start enough in let w0 = w.0 in elim (place n low high) [
+    nested = λ enough n low high. let w = start enough in let w0 = w.0 in elim (place n low high) [
           inl e ↦ subst (λ (m : ℕ). 0 < (way symbols m).0) e (omega arith)
           | inr h ↦
           elim h [
-            inl k ↦ p.open (deep enough) n k.0 k.1
+            inl k ↦ p.nested (deep enough) n k.0 k.1
             | inr e ↦
             subst (λ (m : ℕ). 0 < (way symbols m).0) e (let x = p.braces (deep enough) in omega arith)
           ]

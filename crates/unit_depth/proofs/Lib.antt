@@ -17,4 +17,4 @@ pub mod Blanks
 pub mod Seeing
 pub mod Steps
 pub mod Units
-pub mod Laws
+pub mod BothWays

@@ -112,19 +112,19 @@ module _ (symbols : List Symbol) where
           | inr h ↦ p.low o n lt bare low h
         ];
     even = λ o lt bare. q.even o (let x = p.le in omega arith) (p.even o lt bare);
-    tame = λ o n lt bare low high here behind no. elim (cases_lt n m) [
-          inl h ↦ p.tame o n lt bare low h here behind no
-          | inr h ↦ q.tame o n (let x = p.le in omega arith) (p.even o lt bare) h high here behind no
+    tame = λ o n lt bare low high here behind not_so. elim (cases_lt n m) [
+          inl h ↦ p.tame o n lt bare low h here behind not_so
+          | inr h ↦ q.tame o n (let x = p.le in omega arith) (p.even o lt bare) h high here behind not_so
         ];
     choices = λ o le lt bare.
         let x = p.choices o le lt bare in
         let y = q.choices o le (let z = p.le in omega arith) (p.even o lt bare) in
         omega arith;
-    colon = λ o n le lt bare low high here yes. elim (cases_lt n m) [
-          inl h ↦ p.colon o n le lt bare low h here yes
+    colon = λ o n le lt bare low high here is_so. elim (cases_lt n m) [
+          inl h ↦ p.colon o n le lt bare low h here is_so
           | inr h ↦
           let x = p.choices o le lt bare in
-              let y = q.colon o n le (let z = p.le in omega arith) (p.even o lt bare) h high here yes in
+              let y = q.colon o n le (let z = p.le in omega arith) (p.even o lt bare) h high here is_so in
               omega arith
         ];
   }
@@ -137,25 +137,25 @@ module _ (symbols : List Symbol) where
     even = p.even;
     tame = p.tame;
     choices = λ o le lt bare. let x = p.choices o le lt bare in omega arith;
-    colon = λ o n le lt bare low high here yes. let x = p.colon o n le lt bare low high here yes in omega arith;
+    colon = λ o n le lt bare low high here is_so. let x = p.colon o n le lt bare low high here is_so in omega arith;
   }
 
   colon_loose : (n : ℕ) → is_colon (symbol_at symbols n) ≡ true → looseness symbols n ≤ 11
-  colon_loose n yes = colon_small (joins_sequences symbols n) (symbol_at symbols n) yes
+  colon_loose n is_so = colon_small (joins_sequences symbols n) (symbol_at symbols n) is_so
 
   pub part_loosen : (t u a b i j : ℕ) → t ≤ u → Part symbols t a b i j → Part symbols u a b i j
   part_loosen t u a b i j le p = record {
     le = p.le;
     low = p.low;
     even = p.even;
-    tame = λ o n lt bare low high here behind no. elim (cases_lt 10 u) [
+    tame = λ o n lt bare low high here behind not_so. elim (cases_lt 10 u) [
           inl h ↦
-          by_test (is_colon (symbol_at symbols n)) (λ yes. let x = colon_loose n yes in omega arith)
+          by_test (is_colon (symbol_at symbols n)) (λ is_so. let x = colon_loose n is_so in omega arith)
               (λ other. let x = p.tame o n lt bare low high here behind (λ e. other) in omega arith)
-          | inr h ↦ let x = p.tame o n lt bare low high here behind (λ e. no (omega arith)) in omega arith
+          | inr h ↦ let x = p.tame o n lt bare low high here behind (λ e. not_so (omega arith)) in omega arith
         ];
     choices = λ o small lt bare. p.choices o (omega arith) lt bare;
-    colon = λ o n small lt bare low high here yes. p.colon o n (omega arith) lt bare low high here yes;
+    colon = λ o n small lt bare low high here is_so. p.colon o n (omega arith) lt bare low high here is_so;
   }
 
   -- ---- one token that is no bracket
@@ -188,19 +188,19 @@ module _ (symbols : List Symbol) where
     low = λ o k lt bare low high. one_or_next n k low high (λ (m : ℕ). closed symbols o m ≤ opened symbols o m)
         (omega arith) (let x = steps o n opens closes lt in let y = x.0 in let z = x.1 in omega arith);
     even = λ o lt bare. let x = steps o n opens closes lt in let y = x.0 in let z = x.1 in omega arith;
-    tame = λ o k lt bare low high here behind no.
+    tame = λ o k lt bare low high here behind not_so.
         let same : k ≡ n = omega arith in
         subst (λ (m : ℕ). looseness symbols m ≤ t) (sym same)
         (tame (subst (λ (m : ℕ). is_behind symbols m ≡ true) same behind)
-        (subst (λ (m : ℕ). t ≡ 10 → is_colon (symbol_at symbols m) ≡ false) same no));
+        (subst (λ (m : ℕ). t ≡ 10 → is_colon (symbol_at symbols m) ≡ false) same not_so));
     choices = λ o le lt bare.
         let x = questions_more o n lt bare in
         let y = colons_more o n lt bare in
         let z = debt le in
         omega arith;
-    colon = λ o k le lt bare low high here yes.
+    colon = λ o k le lt bare low high here is_so.
         let same : k ≡ n = omega arith in
-        let more : 0 < a = some le (subst (λ (m : ℕ). is_colon (symbol_at symbols m) ≡ true) same yes) in
+        let more : 0 < a = some le (subst (λ (m : ℕ). is_colon (symbol_at symbols m) ≡ true) same is_so) in
         subst (λ (m : ℕ). colons symbols o m + questions symbols o n < questions symbols o m + colons symbols o n + a)
         (sym same) (omega arith);
   }
@@ -225,7 +225,7 @@ module _ (symbols : List Symbol) where
       → closes_bracket (symbol_at symbols i) ≡ false → Part symbols t a b (suc i) j
       → opens_bracket (symbol_at symbols j) ≡ false → closes_bracket (symbol_at symbols j) ≡ true
       → (o : ℕ) → o < i → opened symbols o i ≡ closed symbols o i → opened symbols o (suc j) ≡ closed symbols o (suc j)
-  closes_even t a b i j opens closes p no yes o lt bare =
+  closes_even t a b i j opens closes p not_so is_so o lt bare =
       let le : suc i ≤ j = p.le in
       let x = opened_split o i j lt le in
       let y = closed_split o i j lt le in
@@ -234,8 +234,8 @@ module _ (symbols : List Symbol) where
       let z = p.even i (omega arith) (opened_none i ∙ sym (closed_none i)) in
       let f = opened_more o j (omega arith) in
       let g = closed_more o j (omega arith) in
-      let h : one (opens_bracket (symbol_at symbols j)) ≡ one false = ap one no in
-      let k : one (closes_bracket (symbol_at symbols j)) ≡ one true = ap one yes in
+      let h : one (opens_bracket (symbol_at symbols j)) ≡ one false = ap one not_so in
+      let k : one (closes_bracket (symbol_at symbols j)) ≡ one true = ap one is_so in
       omega arith
 
   -- no bare token that passes a test stands in the brackets
@@ -243,7 +243,7 @@ module _ (symbols : List Symbol) where
       → opened symbols o i ≡ closed symbols o i
       → count_in (λ k. is_bare symbols o k && f (symbol_at symbols k)) (suc o) (suc j)
       ≡ count_in (λ k. is_bare symbols o k && f (symbol_at symbols k)) (suc o) i
-  no_more i j f no round le o lt bare =
+  no_more i j f not_so round le o lt bare =
       let split =
           count_split (λ k. is_bare symbols o k && f (symbol_at symbols k)) (suc o) i (suc j) lt (omega arith) in
       let none =
@@ -255,7 +255,7 @@ module _ (symbols : List Symbol) where
             | inr h ↦
             let same : i ≡ k = omega arith in
                 and_right (is_bare symbols o k) (f (symbol_at symbols k))
-                (subst (λ (m : ℕ). f (symbol_at symbols m) ≡ false) same no)
+                (subst (λ (m : ℕ). f (symbol_at symbols m) ≡ false) same not_so)
           ]) in
       omega arith
 
@@ -264,9 +264,9 @@ module _ (symbols : List Symbol) where
       → is_colon (symbol_at symbols i) ≡ false → IsTame t i → Part symbols u x y (suc i) j
       → opens_bracket (symbol_at symbols j) ≡ false → closes_bracket (symbol_at symbols j) ≡ true
       → Part symbols t a a i (suc j)
-  part_brackets t a u x y i j opens closes question colon tame p no yes =
+  part_brackets t a u x y i j opens closes question colon tame p not_so is_so =
       let round = within_brackets u x y i j opens closes p in
-      let even = closes_even u x y i j opens closes p no yes in
+      let even = closes_even u x y i j opens closes p not_so is_so in
       let le : suc i ≤ j = p.le in
       record {
         le = omega arith;

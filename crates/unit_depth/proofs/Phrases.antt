@@ -143,14 +143,14 @@ module _ (symbols : List Symbol) where
       → opened symbols i n ≡ closed symbols i n → closes_bracket (symbol_at symbols n) ≡ false
   open_there t a b i j n p low high bare =
       by_test (closes_bracket (symbol_at symbols n))
-      (λ yes.
+      (λ is_so.
       let x = p.low i (suc n) (omega arith) (opened_none symbols i ∙ sym (closed_none symbols i)) (omega arith) high in
       let y = opened_more symbols i n low in
       let z = closed_more symbols i n low in
-      let u : one (closes_bracket (symbol_at symbols n)) ≡ one true = ap one yes in
+      let u : one (closes_bracket (symbol_at symbols n)) ≡ one true = ap one is_so in
       let v : one (opens_bracket (symbol_at symbols n)) ≡ one false =
-      ap one (closes_alone (symbol_at symbols n) yes) in
-      absurd (omega arith)) (λ no. no)
+      ap one (closes_alone (symbol_at symbols n) is_so) in
+      absurd (omega arith)) (λ not_so. not_so)
 
   -- no token in a span that joins as tightly as that ends it
   pub phrase_stays : (r a b i j n : ℕ) → a ≤ 1 → Part symbols r a b (suc i) j → i < n → n < j
@@ -167,14 +167,14 @@ module _ (symbols : List Symbol) where
       near bare behind =
           beyond_not (nat_eq r 10) (is_colon (symbol_at symbols n))
           (nat_lt (questions symbols i n) (colons symbols i n)) (nat_lt r (looseness symbols n))
-          (λ e yes.
+          (λ e is_so.
           let same : r ≡ 10 = eqb-true r 10 e in
-          let x = p.colon i n (omega arith) (omega arith) start low high bare yes in
+          let x = p.colon i n (omega arith) (omega arith) start low high bare is_so in
           let q = questions_none symbols i in
           let k = colons_none symbols i in
           le-ltb (questions symbols i n) (colons symbols i n) (omega arith))
-          (λ no. le-ltb r (looseness symbols n)
-          (p.tame i n (omega arith) start low high bare behind (λ same. no (eq-eqb r 10 same))))
+          (λ not_so. le-ltb r (looseness symbols n)
+          (p.tame i n (omega arith) start low high bare behind (λ same. not_so (eq-eqb r 10 same))))
 
   pub stands_there : (r i p : ℕ) → reach_of symbols i ≡ Some r
       → ((n : ℕ) → i < n → n ≤ p → ends symbols r i n ≡ false) → stands_in symbols i p ≡ true
@@ -184,13 +184,13 @@ module _ (symbols : List Symbol) where
 
   pub stands_not : (r i n p : ℕ) → reach_of symbols i ≡ Some r → i < n → n ≤ p → ends symbols r i n ≡ true
       → stands_in symbols i p ≡ false
-  stands_not r i n p reach low high yes =
+  stands_not r i n p reach low high is_so =
       ap (λ (o : Option ℕ). stands_by symbols o i p) reach
-      ∙ none_not (ends symbols r i) (suc i) (suc p) n low (omega arith) yes
+      ∙ none_not (ends symbols r i) (suc i) (suc p) n low (omega arith) is_so
 
   pub spanned_phrase : (room r i j : ℕ) → i < j → reach_of symbols i ≡ Some r → ends symbols r i j ≡ true
       → Spanned symbols room (suc i) j → Spanned symbols (suc room) i j
-  spanned_phrase room r i j some reach yes s = record {
+  spanned_phrase room r i j some reach is_so s = record {
     within = λ p low high. elim (cases_lt i p) [
           inl h ↦
           let first = count_first (λ o. stands_in symbols o p) i p h in
@@ -204,7 +204,7 @@ module _ (symbols : List Symbol) where
           inl h ↦ s.ended o p h high past
           | inr h ↦
           let same : i ≡ o = omega arith in
-              subst (λ (k : ℕ). stands_in symbols k p ≡ false) same (stands_not r i j p reach some past yes)
+              subst (λ (k : ℕ). stands_in symbols k p ≡ false) same (stands_not r i j p reach some past is_so)
         ];
   }
 
@@ -228,9 +228,9 @@ module _ (symbols : List Symbol) where
       let whole = fits (suc i) (omega arith) some in
       absurd (omega arith)
   fits_phrase (suc less) i j some here stays fits = (less, refl, λ p low high. elim (stays p low high) [
-    inl yes ↦
+    inl is_so ↦
     let first = count_first (λ o. stands_in symbols o p) i p low in
-        let x : one (stands_in symbols i p) ≡ one true = ap one yes in
+        let x : one (stands_in symbols i p) ≡ one true = ap one is_so in
         let whole = fits p (omega arith) high in
         omega arith
     | inr none ↦ omega arith

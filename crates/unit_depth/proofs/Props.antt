@@ -212,7 +212,7 @@ module _ (x : Setting) where
 
   pub over_far : (r m k : ℕ) (s : Symbol) → At x.symbols m s → may_join s ≡ false → loose s ≡ k → r < k
       → Over x.symbols r m
-  over_far r m k s at no e lt = let same = loose_at x.symbols m s at no in inr (omega arith)
+  over_far r m k s at not_so e lt = let same = loose_at x.symbols m s at not_so in inr (omega arith)
 
   pub behind_place : (i m : ℕ) → Fresh x i → i < m → x.brace ≤ m
   behind_place i m start lt = let inside = start.inside in omega arith
@@ -362,12 +362,12 @@ module _ (x : Setting) where
 
   -- ---- a token between two properties
 
-  pub pair_told : (room i m j : ℕ) (a b c : Phrase) (l r whole : RawProp) → is_still (sy x m) ≡ true → span a ≤ span c
+  pub pair_told : (room i m j : ℕ) (a b c : Phrase) (l r both : RawProp) → is_still (sy x m) ≡ true → span a ≤ span c
       → span b ≤ span c → 11 ≤ span c → looseness x.symbols m ≤ span c
       → ((more : ℕ) → IsProp x.symbols more a l i m → IsProp x.symbols more b r (m + 1) j
-      → IsProp x.symbols more c whole i j)
-      → PropTold room a l i m → PropTold room b r (m + 1) j → PropTold room c whole i j
-  pair_told room i m j a b c l r whole still le le2 big small make u v =
+      → IsProp x.symbols more c both i j)
+      → PropTold room a l i m → PropTold room b r (m + 1) j → PropTold room c both i j
+  pair_told room i m j a b c l r both still le le2 big small make u v =
       let lt = u.some in
       let lt2 = v.some in
       record {

@@ -33,7 +33,7 @@ pub record Rep (s : Symbol) : Type 0 where
   pub next : is_next s ≡ false
   pub parenthesis : is_close_parenthesis s ≡ false
   pub bracket : is_close_bracket s ≡ false
-  pub open : is_open_bracket s ≡ false
+  pub left : is_open_bracket s ≡ false
   pub number : is_number s ≡ false
   pub colon : is_colon s ≡ false
   pub loose : loose s ≡ 11
@@ -45,7 +45,7 @@ rep_of symbol.RepeatOpen e = record {
   next = refl;
   parenthesis = refl;
   bracket = refl;
-  open = refl;
+  left = refl;
   number = refl;
   colon = refl;
   loose = refl;
@@ -56,7 +56,7 @@ rep_of symbol.GotoOpen e = record {
   next = refl;
   parenthesis = refl;
   bracket = refl;
-  open = refl;
+  left = refl;
   number = refl;
   colon = refl;
   loose = refl;
@@ -67,7 +67,7 @@ rep_of symbol.EqualRepeatOpen e = record {
   next = refl;
   parenthesis = refl;
   bracket = refl;
-  open = refl;
+  left = refl;
   number = refl;
   colon = refl;
   loose = refl;
@@ -131,7 +131,7 @@ module _ (x : Setting) where
       let f : j - 4 + 2 ≡ i = omega arith in
       form_square x j shut
       (and_right (is_head x.symbols (j - 3)) (is_count x.symbols (j - 2))
-      (count_off_0 x (j - 2) (ap (λ (m : ℕ). is_open_bracket (sy x m)) e ∙ r.open)))
+      (count_off_0 x (j - 2) (ap (λ (m : ℕ). is_open_bracket (sy x m)) e ∙ r.left)))
       (and_right (is_head x.symbols (j - 5)) (is_range x.symbols (j - 4))
       (range_off_2 x (j - 4) (ap (λ (m : ℕ). is_colon (sy x m)) f ∙ r.colon)))
 
@@ -145,7 +145,7 @@ module _ (x : Setting) where
       (and_right (is_head x.symbols (j - 3)) (is_count x.symbols (j - 2))
       (count_off_0 x (j - 2) (there x is_open_bracket c (j - 2) symbol.Colon false e colon refl)))
       (and_right (is_head x.symbols (j - 5)) (is_range x.symbols (j - 4))
-      (range_off_0 x (j - 4) (ap (λ (m : ℕ). is_open_bracket (sy x m)) f ∙ r.open)))
+      (range_off_0 x (j - 4) (ap (λ (m : ℕ). is_open_bracket (sy x m)) f ∙ r.left)))
 
   pub counts_told : (i h : ℕ) {high : Option ℕ} {j : ℕ} → h ≡ suc i → 3 ≤ i → is_rep (sy x i) ≡ true
       → IsCounts x.symbols high h j → TimesTold i j

@@ -12,6 +12,7 @@ use Rattle.psl_grammar.specs.ExprGrammar.{IsExpr, IsBool, Ends}
 use Rattle.psl_grammar.specs.SereGrammar.{IsTimes, IsPick, IsTimed, IsSere, IsSeq}
 use Rattle.psl_grammar.specs.SereGrammar as s
 use Rattle.psl_parser.specs.Marks.{closes_bracket, looseness, loose, is_colon, ends_operand, is_exclamation, is_event}
+use Rattle.psl_parser.specs.Marks.{is_next, is_close_parenthesis, is_close_bracket}
 use Rattle.psl_parser.specs.OpenPhrases.{is_behind, reach_of, reach_by}
 use Rattle.unit_depth.proofs.Marks.{is_still, Operator, sere_operator, sere_deep}
 use Rattle.unit_depth.proofs.Parts.{Part, part_join, part_loosen, part_token, IsTame, looseness_small}
@@ -27,36 +28,36 @@ use Rattle.unit_depth.proofs.Repeats.{TimesTold, times_told, pick_told, times_fa
 -- ---- where a bool ends
 
 level_far : (s : Symbol) → 10 < after_level s → is_exclamation s ≡ false → 10 < loose s
-level_far symbol.OpenBracket lt no = absurd (omega arith)
-level_far symbol.Sum lt no = absurd (omega arith)
-level_far symbol.Shift lt no = absurd (omega arith)
-level_far symbol.Order lt no = absurd (omega arith)
-level_far symbol.Equality lt no = absurd (omega arith)
-level_far symbol.And lt no = absurd (omega arith)
-level_far symbol.Caret lt no = absurd (omega arith)
-level_far symbol.Or lt no = absurd (omega arith)
-level_far symbol.AndAnd lt no = absurd (omega arith)
-level_far symbol.OrOr lt no = absurd (omega arith)
-level_far symbol.Question lt no = absurd (omega arith)
-level_far symbol.Exclamation lt no = absurd (cc)
-level_far symbol.Until lt no = omega arith
-level_far _ lt no = omega arith
+level_far symbol.OpenBracket lt not_so = absurd (omega arith)
+level_far symbol.Sum lt not_so = absurd (omega arith)
+level_far symbol.Shift lt not_so = absurd (omega arith)
+level_far symbol.Order lt not_so = absurd (omega arith)
+level_far symbol.Equality lt not_so = absurd (omega arith)
+level_far symbol.And lt not_so = absurd (omega arith)
+level_far symbol.Caret lt not_so = absurd (omega arith)
+level_far symbol.Or lt not_so = absurd (omega arith)
+level_far symbol.AndAnd lt not_so = absurd (omega arith)
+level_far symbol.OrOr lt not_so = absurd (omega arith)
+level_far symbol.Question lt not_so = absurd (omega arith)
+level_far symbol.Exclamation lt not_so = absurd (cc)
+level_far symbol.Until lt not_so = omega arith
+level_far _ lt not_so = omega arith
 
 bool_far : (braced joins : Bool) (s : Symbol) → 10 < cond (braced && joins) 11 (after_level s)
     → is_exclamation s ≡ false → 10 < cond joins 11 (loose s)
-bool_far braced true s lt no = omega arith
-bool_far true false s lt no = level_far s lt no
-bool_far false false s lt no = level_far s lt no
+bool_far braced true s lt not_so = omega arith
+bool_far true false s lt not_so = level_far s lt not_so
+bool_far false false s lt not_so = level_far s lt not_so
 
 module _ (x : Setting) where
   pub bool_over : (braced : Bool) (j : ℕ) → Ends x.symbols braced 10 j → is_exclamation (sy x j) ≡ false
       → Over x.symbols 10 j
-  bool_over braced j ends no = inr (bool_far braced (joins_sequences x.symbols j) (sy x j) ends no)
+  bool_over braced j ends not_so = inr (bool_far braced (joins_sequences x.symbols j) (sy x j) ends not_so)
 
-  pub bool_told : {room : ℕ} {braced : Bool} {e : RawExpr} {i j : ℕ} → IsBool x.symbols room braced e i j
+  pub bool_told : {room : ℕ} (braced : Bool) {e : RawExpr} {i j : ℕ} → IsBool x.symbols room braced e i j
       → Fresh x i → is_exclamation (sy x j) ≡ false → ExprTold x room 10 e i j
-  bool_told {braced = braced} {j = j} p start no =
-      let over = bool_over braced j p.1 no in
+  bool_told braced {j = j} p start not_so =
+      let over = bool_over braced j p.1 not_so in
       expr_told x p.0 start (over_less x.symbols 0 10 j (omega arith) over) (λ le. over)
 
   -- ---- repetitions of a bool
@@ -73,8 +74,8 @@ module _ (x : Setting) where
   After _ j = Unit {0}
 
   pub after_any : (r : RawSere) (j : ℕ) → is_exclamation (sy x j) ≡ false → After r j
-  after_any (bool e) j no = no
-  after_any _ j no = tt
+  after_any (bool e) j not_so = not_so
+  after_any _ j not_so = tt
 
   times_more : (room i m j : ℕ) → Told x.symbols 1 room 11 i m → TimesTold x m j → looseness x.symbols m ≤ 11
       → Told x.symbols 1 room 11 i j
@@ -105,17 +106,17 @@ module _ (x : Setting) where
 
   pub timed_told : {room : ℕ} {braced : Bool} {r : RawSere} {i j : ℕ} → IsTimed x.symbols room braced r i j
       → Fresh x i → 3 ≤ i → After r j → TimedTold room braced r i j
-  timed_told {room = room} (s.once {e = e} {i = i} {j = j} p) start le no =
-      let r = bool_told p start no in
+  timed_told {room = room} {braced = braced} (s.once {e = e} {i = i} {j = j} p) start le not_so =
+      let r = bool_told braced p start not_so in
       record {
         some = r.some;
         behind = r.behind;
         told = told_more x.symbols 1 1 room room 10 11 i j (omega arith) (omega arith) (omega arith) r.told;
         fits = λ more f. s.once (r.fits more f, p.1);
       }
-  timed_told {room = room} (s.picked {e = e} {i = i} {m = m} {j = j} p c) start le no =
+  timed_told {room = room} {braced = braced} (s.picked {e = e} {i = i} {m = m} {j = j} p c) start le not_so =
       let far = pick_far x c in
-      let r = bool_told p start far.1 in
+      let r = bool_told braced p start far.1 in
       let lt = r.some in
       let q = pick_told x c (omega arith) in
       let lt2 = q.some in
@@ -127,7 +128,7 @@ module _ (x : Setting) where
             (pick_small c);
         fits = λ more f. s.picked (r.fits more (fits_part x.symbols more i i m j (omega arith) (omega arith) f), p.1) c;
       }
-  timed_told {room = room} (s.IsTimed.again {s = r} {i = i} {m = m} {j = j} p c) start le no =
+  timed_told {room = room} (s.IsTimed.again {s = r} {i = i} {m = m} {j = j} p c) start le not_so =
       let far = times_far x c in
       let r = timed_told p start le (after_any r m far.1) in
       let lt = r.some in
@@ -172,7 +173,9 @@ module _ (x : Setting) where
 
   close_behind : (j : ℕ) → At x.symbols j symbol.CloseBrace → is_behind x.symbols (j + 1) ≡ true
   close_behind j shut =
-      behind_next x j (j + 1) true (omega arith) (still_behind x j (ap is_still shut) ∙ ap ends_operand shut)
+      behind_next x j (j + 1) true (omega arith)
+      (behind_at x j symbol.CloseBrace shut
+      (form_off x j (head_off x j (ap is_next shut) (ap is_close_parenthesis shut)) (ap is_close_bracket shut)))
 
   braces_told : (room i j : ℕ) (r : RawSere) → Fresh x i → At x.symbols i symbol.OpenBrace
       → At x.symbols j symbol.CloseBrace → SereTold room 6 r (i + 1) j → SereTold (suc room) 0 r i (j + 1)
@@ -211,7 +214,7 @@ module _ (x : Setting) where
         kept = kept_deep x.symbols m (sere_deep (sy x m) k o lt);
         part = part_token x.symbols 15 0 0 m op.quiet.opens op.quiet.closes
             (tame_by x.symbols 15 m (looseness_small x.symbols m)) (λ small. absurd (omega arith))
-            (λ small yes. absurd (omega arith));
+            (λ small is_so. absurd (omega arith));
         spanned = spanned_token x.symbols room m (reach_unformed x m (form_quiet x m op.quiet)
             ∙ ap (λ (h : Bool). reach_by (sy x m) (braced_at x m) h false) a.behind ∙ op.reach (braced_at x m));
       }) in
@@ -232,11 +235,11 @@ module _ (x : Setting) where
 
   pub sere_told : {room level : ℕ} {r : RawSere} {i j : ℕ} → IsSere x.symbols room level r i j → Fresh x i → 3 ≤ i
       → (1 ≤ level → is_exclamation (sy x j) ≡ false) → SereTold room level r i j
-  sere_told (s.braces {room = room} {s = r} {i = i} {j = j} a p c) start le no =
+  sere_told (s.braces {room = room} {s = r} {i = i} {j = j} a p c) start le not_so =
       braces_told room i j r start a c
       (sere_told p (fresh_brace i start a) (omega arith) (λ some. ap is_exclamation c))
-  sere_told (s.name {room = room} {i = i} a) start le no = name_told room i start a
-  sere_told (s.alone {room = room} {low = low} {high = high} {i = i} {j = j} c) start le no =
+  sere_told (s.name {room = room} {i = i} a) start le not_so = name_told room i start a
+  sere_told (s.alone {room = room} {low = low} {high = high} {i = i} {j = j} c) start le not_so =
       let q = times_told x c le in
       record {
         some = q.some;
@@ -244,7 +247,7 @@ module _ (x : Setting) where
         told = q.told room 11 (not_behind x.symbols 11 i start.behind) (λ small. absurd (omega arith));
         fits = λ more f. s.alone c;
       }
-  sere_told (s.IsSere.again {room = room} {s = r} {i = i} {m = m} {j = j} p c) start le no =
+  sere_told (s.IsSere.again {room = room} {s = r} {i = i} {m = m} {j = j} p c) start le not_so =
       let a = sere_told p start le (λ some. absurd (omega arith)) in
       let lt = a.some in
       let q = times_told x c (omega arith) in
@@ -256,23 +259,23 @@ module _ (x : Setting) where
         fits = λ more f.
             s.IsSere.again (a.fits more (fits_part x.symbols more i i m j (omega arith) (omega arith) f)) c;
       }
-  sere_told (s.timed {room = room} {s = r} {i = i} {j = j} p) start le no =
-      let a = timed_told p start le (after_any r j (no (omega arith))) in
+  sere_told (s.timed {room = room} {s = r} {i = i} {j = j} p) start le not_so =
+      let a = timed_told p start le (after_any r j (not_so (omega arith))) in
       record {
         some = a.some;
         behind = a.behind;
         told = told_more x.symbols 1 2 room room 11 15 i j (omega arith) (omega arith) (omega arith) a.told;
         fits = λ more f. s.timed (a.fits more f);
       }
-  sere_told (s.joins {room = room} {k = k} {l = l} {r = r} {i = i} {m = m} {j = j} lt p o q) start le no =
+  sere_told (s.joins {room = room} {k = k} {l = l} {r = r} {i = i} {m = m} {j = j} lt p o q) start le not_so =
       let a = sere_told p start le (λ some. level_mark (sy x m) k o lt) in
       let lt2 = a.some in
       let inside : x.brace ≤ m = let lt3 = start.inside in omega arith in
       joins_told room k i m j l r lt o a
       (sere_told q (fresh_operator x m inside (sere_operator (sy x m) k o lt)) (omega arith)
-      (λ some. no (omega arith)))
-  sere_told (s.IsSere.looser {room = room} {k = k} {s = r} {i = i} {j = j} p) start le no =
-      let a = sere_told p start le (λ some. no (omega arith)) in
+      (λ some. not_so (omega arith)))
+  sere_told (s.IsSere.looser {room = room} {k = k} {s = r} {i = i} {j = j} p) start le not_so =
+      let a = sere_told p start le (λ some. not_so (omega arith)) in
       record {
         some = a.some;
         behind = a.behind;

@@ -35,9 +35,9 @@ ended_by : (symbols : List Symbol) (r : Option ℕ) (o p q : ℕ) → p ≤ q �
 ended_by symbols None o p q le e = refl
 ended_by symbols (Some r) o p q le e =
     by_test (none_in (ends symbols r o) (suc o) (suc q))
-    (λ yes. absurd (both_ways (none_in (ends symbols r o) (suc o) (suc p)) e
+    (λ is_so. absurd (both_ways (none_in (ends symbols r o) (suc o) (suc p)) e
     (none_from (ends symbols r o) (suc o) (suc p)
-    (λ k low high. none_at (ends symbols r o) (suc o) (suc q) k yes low (omega arith))))) (λ no. no)
+    (λ k low high. none_at (ends symbols r o) (suc o) (suc q) k is_so low (omega arith))))) (λ not_so. not_so)
 
 stays_ended : (symbols : List Symbol) (o p q : ℕ) → p ≤ q → stands_in symbols o p ≡ false
     → stands_in symbols o q ≡ false
@@ -53,7 +53,7 @@ same_loose a b n e f =
 
 pub moved : (a b : List Symbol) → ((n : ℕ) → blank (symbol_at a n) ≡ blank (symbol_at b n)) → (n : ℕ) (s : Symbol)
     → blank s ≡ s → (s ≡ symbol.Name → ⊥) → At a n s → At b n s
-moved a b same n s e no at = blank_back (symbol_at b n) s (sym (same n) ∙ ap blank at ∙ e) no
+moved a b same n s e not_so at = blank_back (symbol_at b n) s (sym (same n) ∙ ap blank at ∙ e) not_so
 
 name_undeclared : (s : Symbol) → IsTrue (is_name s) → declared_as s ≡ None
 name_undeclared symbol.Name e = refl
@@ -158,7 +158,7 @@ module _ (text : List ℕ) (tokens : List Token) where
 
 module _ (text : List ℕ) (tokens : List Token) (brace : ℕ) (start : At (outside text tokens) 0 symbol.Vunit)
     (braced : At (outside text tokens) brace symbol.OpenBrace) where
-  pub local_setting : (known : Known) → IsNaming known → Setting
+  abbrev pub local_setting : (known : Known) → IsNaming known → Setting
   local_setting known all = record {
     symbols = symbols_in text known tokens;
     start = moved (outside text tokens) (symbols_in text known tokens) (plain_local text tokens known all) 0
@@ -168,7 +168,7 @@ module _ (text : List ℕ) (tokens : List Token) (brace : ℕ) (start : At (outs
         symbol.OpenBrace refl (λ e. cc) braced;
   }
 
-  pub seen_setting : Setting
+  abbrev pub seen_setting : Setting
   seen_setting = record {
     symbols = seen text tokens;
     start = moved (outside text tokens) (seen text tokens) (plain_seen text tokens) 0 symbol.Vunit refl (λ e. cc) start;
@@ -191,7 +191,7 @@ module _ (text : List ℕ) (tokens : List Token) (brace : ℕ) (start : At (outs
     pub fits : (more : ℕ) → ((p : ℕ) → m ≤ p → p < e → inner (seen text tokens) m p ≤ more)
         → SpellItem (symbols_in text known tokens) more it m e
     pub own : (n : ℕ) → m ≤ n → n < e → (way (seen text tokens) n).1 + m ≡ n
-    pub open : (n : ℕ) → m ≤ n → n < e → 0 < (way (seen text tokens) n).0
+    pub nested : (n : ℕ) → m ≤ n → n < e → 0 < (way (seen text tokens) n).0
     pub long : Length it m e
 
   -- a semicolon is a token of the text
@@ -315,7 +315,7 @@ module _ (text : List ℕ) (tokens : List Token) (brace : ℕ) (start : At (outs
     open_at : (n : ℕ) → m ≤ n → n < e → 0 < (way there n).0
     open_at n low high =
         elim (cases_lt n told.last) [
-          inl h ↦ told.kept.open enough n low h
+          inl h ↦ told.kept.nested enough n low h
           | inr h ↦
           let ends = told.ends in
               let at_end : told.last ≡ n = omega arith in
@@ -382,7 +382,7 @@ module _ (text : List ℕ) (tokens : List Token) (brace : ℕ) (start : At (outs
           let y = f q low (let z = told.ends in omega arith) in
           omega arith);
       own = λ n low high. ap (λ (w : ℕ × ℕ). w.1 + m) (way_seen n) ∙ own_at n low high;
-      open = λ n low high. subst (λ (w : ℕ × ℕ). 0 < w.0) (sym (way_seen n)) (open_at n low high);
+      nested = λ n low high. subst (λ (w : ℕ × ℕ). 0 < w.0) (sym (way_seen n)) (open_at n low high);
       long = elim told.long [
             inl h ↦ inl (sym wire_is ∙ h.0, h.1)
             | inr h ↦ inr (sym wire_is ∙ h.0, h.1, h.2)

@@ -60,7 +60,7 @@ module _ (x : Setting) where
 
   pub count_tail : (n : ℕ) → is_close_bracket (sy n) ≡ false
       → (is_head x.symbols (n - 3) && is_count x.symbols (n - 2)) ≡ false
-  count_tail n no =
+  count_tail n not_so =
       elim (cases_lt n 2) [
         inl h ↦
         and_left (is_head x.symbols (n - 3)) (is_count x.symbols (n - 2)) (head_before n 3 (omega arith))
@@ -68,12 +68,12 @@ module _ (x : Setting) where
         let e : n - 2 + 2 ≡ n = omega arith in
             and_right (is_head x.symbols (n - 3)) (is_count x.symbols (n - 2))
             (and_right (is_open_bracket (sy (n - 2)) && is_number (sy (n - 2 + 1))) (is_close_bracket (sy (n - 2 + 2)))
-            (ap (λ (m : ℕ). is_close_bracket (sy m)) e ∙ no))
+            (ap (λ (m : ℕ). is_close_bracket (sy m)) e ∙ not_so))
       ]
 
   pub range_tail : (n : ℕ) → is_close_bracket (sy n) ≡ false
       → (is_head x.symbols (n - 5) && is_range x.symbols (n - 4)) ≡ false
-  range_tail n no =
+  range_tail n not_so =
       elim (cases_lt n 4) [
         inl h ↦
         and_left (is_head x.symbols (n - 5)) (is_range x.symbols (n - 4)) (head_before n 5 (omega arith))
@@ -83,7 +83,7 @@ module _ (x : Setting) where
             (and_right
             (is_open_bracket (sy (n - 4)) && is_number (sy (n - 4 + 1)) && is_colon (sy (n - 4 + 2))
             && is_number (sy (n - 4 + 3))) (is_close_bracket (sy (n - 4 + 4)))
-            (ap (λ (m : ℕ). is_close_bracket (sy m)) e ∙ no))
+            (ap (λ (m : ℕ). is_close_bracket (sy m)) e ∙ not_so))
       ]
 
   pub form_off : (n : ℕ) → is_head x.symbols n ≡ false → is_close_bracket (sy n) ≡ false
@@ -107,47 +107,47 @@ module _ (x : Setting) where
   -- ---- what is no count and no range
 
   pub count_off_0 : (i : ℕ) → is_open_bracket (sy i) ≡ false → is_count x.symbols i ≡ false
-  count_off_0 i no =
+  count_off_0 i not_so =
       and_left (is_open_bracket (sy i) && is_number (sy (i + 1))) (is_close_bracket (sy (i + 2)))
-      (and_left (is_open_bracket (sy i)) (is_number (sy (i + 1))) no)
+      (and_left (is_open_bracket (sy i)) (is_number (sy (i + 1))) not_so)
 
   pub count_off_1 : (i : ℕ) → is_number (sy (i + 1)) ≡ false → is_count x.symbols i ≡ false
-  count_off_1 i no =
+  count_off_1 i not_so =
       and_left (is_open_bracket (sy i) && is_number (sy (i + 1))) (is_close_bracket (sy (i + 2)))
-      (and_right (is_open_bracket (sy i)) (is_number (sy (i + 1))) no)
+      (and_right (is_open_bracket (sy i)) (is_number (sy (i + 1))) not_so)
 
   range_off : (i : ℕ)
       → (is_open_bracket (sy i) && is_number (sy (i + 1)) && is_colon (sy (i + 2)) && is_number (sy (i + 3))) ≡ false
       → is_range x.symbols i ≡ false
-  range_off i no =
+  range_off i not_so =
       and_left
       (is_open_bracket (sy i) && is_number (sy (i + 1)) && is_colon (sy (i + 2)) && is_number (sy (i + 3)))
-      (is_close_bracket (sy (i + 4))) no
+      (is_close_bracket (sy (i + 4))) not_so
 
   pub range_off_0 : (i : ℕ) → is_open_bracket (sy i) ≡ false → is_range x.symbols i ≡ false
-  range_off_0 i no =
+  range_off_0 i not_so =
       range_off i (and_left (is_open_bracket (sy i) && is_number (sy (i + 1)) && is_colon (sy (i + 2)))
       (is_number (sy (i + 3)))
       (and_left (is_open_bracket (sy i) && is_number (sy (i + 1))) (is_colon (sy (i + 2)))
-      (and_left (is_open_bracket (sy i)) (is_number (sy (i + 1))) no)))
+      (and_left (is_open_bracket (sy i)) (is_number (sy (i + 1))) not_so)))
 
   pub range_off_1 : (i : ℕ) → is_number (sy (i + 1)) ≡ false → is_range x.symbols i ≡ false
-  range_off_1 i no =
+  range_off_1 i not_so =
       range_off i (and_left (is_open_bracket (sy i) && is_number (sy (i + 1)) && is_colon (sy (i + 2)))
       (is_number (sy (i + 3)))
       (and_left (is_open_bracket (sy i) && is_number (sy (i + 1))) (is_colon (sy (i + 2)))
-      (and_right (is_open_bracket (sy i)) (is_number (sy (i + 1))) no)))
+      (and_right (is_open_bracket (sy i)) (is_number (sy (i + 1))) not_so)))
 
   pub range_off_2 : (i : ℕ) → is_colon (sy (i + 2)) ≡ false → is_range x.symbols i ≡ false
-  range_off_2 i no =
+  range_off_2 i not_so =
       range_off i (and_left (is_open_bracket (sy i) && is_number (sy (i + 1)) && is_colon (sy (i + 2)))
       (is_number (sy (i + 3)))
-      (and_right (is_open_bracket (sy i) && is_number (sy (i + 1))) (is_colon (sy (i + 2))) no))
+      (and_right (is_open_bracket (sy i) && is_number (sy (i + 1))) (is_colon (sy (i + 2))) not_so))
 
   pub range_off_3 : (i : ℕ) → is_number (sy (i + 3)) ≡ false → is_range x.symbols i ≡ false
-  range_off_3 i no =
+  range_off_3 i not_so =
       range_off i (and_right (is_open_bracket (sy i) && is_number (sy (i + 1)) && is_colon (sy (i + 2)))
-      (is_number (sy (i + 3))) no)
+      (is_number (sy (i + 3))) not_so)
 
   -- a fact of one symbol at a place that is told in two ways
   pub there : (f : Symbol → Bool) (n k : ℕ) (s : Symbol) (b : Bool) → k ≡ n → At x.symbols n s → f s ≡ b
@@ -217,9 +217,9 @@ module _ (x : Setting) where
     pub inside : x.brace < i
 
   pub no_event : (n k : ℕ) → k ≡ suc n → is_event (sy n) ≡ false → opens_event x.symbols k ≡ false
-  no_event n k same no =
+  no_event n k same not_so =
       let e : k - 1 ≡ n = omega arith in
-      and_right (is_open_parenthesis (sy k)) (is_event (sy (k - 1))) (ap (λ (m : ℕ). is_event (sy m)) e ∙ no)
+      and_right (is_open_parenthesis (sy k)) (is_event (sy (k - 1))) (ap (λ (m : ℕ). is_event (sy m)) e ∙ not_so)
 
   pub fresh : (n k : ℕ) → k ≡ suc n → is_behind x.symbols (suc n) ≡ false → is_event (sy n) ≡ false → x.brace ≤ n
       → Fresh k
@@ -235,9 +235,9 @@ module _ (x : Setting) where
       → closes_round x.symbols i n ≡ false
   round_off t a b i j n p low high =
       by_test (is_bare x.symbols i n)
-      (λ yes. and_right (is_bare x.symbols i n) (closes_bracket (sy n))
-      (open_there x.symbols t a b i j n p low high (bare_is x.symbols i n yes)))
-      (λ no. and_left (is_bare x.symbols i n) (closes_bracket (sy n)) no)
+      (λ is_so. and_right (is_bare x.symbols i n) (closes_bracket (sy n))
+      (open_there x.symbols t a b i j n p low high (bare_is x.symbols i n is_so)))
+      (λ not_so. and_left (is_bare x.symbols i n) (closes_bracket (sy n)) not_so)
 
   abbrev matches : (j o : ℕ) → Bool
   matches j o = opens_event x.symbols o
@@ -261,7 +261,7 @@ module _ (x : Setting) where
   -- up to a token that closes the brackets around, at most as many were closed as were opened
   low_more : (o n : ℕ) → o < n → closes_round x.symbols o n ≡ false → closed x.symbols o n ≤ opened x.symbols o n
       → closed x.symbols o (suc n) ≤ opened x.symbols o (suc n)
-  low_more o n lt no le =
+  low_more o n lt not_so le =
       let y = opened_more x.symbols o n lt in
       let z = closed_more x.symbols o n lt in
       let few = one_small (closes_bracket (sy n)) in
@@ -269,7 +269,7 @@ module _ (x : Setting) where
         inl h ↦ omega arith
         | inr h ↦
         let bare = bare_yes x.symbols o n (omega arith) in
-            let off : closes_bracket (sy n) ≡ false = sym (ap (λ (t : Bool). t && closes_bracket (sy n)) bare) ∙ no in
+            let off : closes_bracket (sy n) ≡ false = sym (ap (λ (t : Bool). t && closes_bracket (sy n)) bare) ∙ not_so in
             let none : one (closes_bracket (sy n)) ≡ one false = ap one off in
             omega arith
       ]
@@ -289,7 +289,7 @@ module _ (x : Setting) where
 
   pub event_no : (t a b i j : ℕ) → At x.symbols i symbol.OpenParenthesis → opens_event x.symbols i ≡ false
       → Part x.symbols t a b (suc i) j → closes_event x.symbols j ≡ false
-  event_no t a b i j open event p =
+  event_no t a b i j opener event p =
       let none = count_zero (λ o. matches j o) 0 j (λ o low high. each o high (cases_order o i)) in
       and_right (is_close_parenthesis (sy j)) (nat_lt 0 (count_in (λ o. matches j o) 0 j))
       (le-ltb 0 (count_in (λ o. matches j o) 0 j) (omega arith))
@@ -301,46 +301,46 @@ module _ (x : Setting) where
       even = p.even i (omega arith) (opened_none x.symbols i ∙ sym (closed_none x.symbols i))
 
       unmatched : (o : ℕ) → closes_round x.symbols o j ≡ false → matches j o ≡ false
-      unmatched o no =
+      unmatched o not_so =
           and_right (opens_event x.symbols o)
           (closes_round x.symbols o j && none_in (closes_round x.symbols o) (suc o) j)
-          (and_left (closes_round x.symbols o j) (none_in (closes_round x.symbols o) (suc o) j) no)
+          (and_left (closes_round x.symbols o j) (none_in (closes_round x.symbols o) (suc o) j) not_so)
 
       uneven : (o : ℕ) → (opened x.symbols o j ≡ closed x.symbols o j → ⊥) → matches j o ≡ false
-      uneven o no =
+      uneven o not_so =
           unmatched o (and_left (is_bare x.symbols o j) (closes_bracket (sy j))
-          (ne_eqb (opened x.symbols o j) (closed x.symbols o j) no))
+          (ne_eqb (opened x.symbols o j) (closed x.symbols o j) not_so))
 
       later : (o : ℕ) → i < o → o < j → matches j o ≡ false
       later o low high =
           by_test (is_open_parenthesis (sy o))
-          (λ yes. uneven o (λ same.
+          (λ is_so. uneven o (λ same.
           let y = opened_split x.symbols i o j low high in
           let z = closed_split x.symbols i o j low high in
-          let u : one (opens_bracket (sy o)) ≡ one true = ap one (is_parenthesis (sy o) yes) in
+          let u : one (opens_bracket (sy o)) ≡ one true = ap one (is_parenthesis (sy o) is_so) in
           let v = p.low i o (omega arith) (opened_none x.symbols i ∙ sym (closed_none x.symbols i)) low (omega arith) in
           let w = even in
-          let f : one (closes_bracket (sy o)) ≡ one false = ap one (parenthesis_alone (sy o) yes) in
+          let f : one (closes_bracket (sy o)) ≡ one false = ap one (parenthesis_alone (sy o) is_so) in
           omega arith))
-          (λ no. and_left (opens_event x.symbols o)
+          (λ not_so. and_left (opens_event x.symbols o)
           (closes_round x.symbols o j && none_in (closes_round x.symbols o) (suc o) j)
-          (and_left (is_open_parenthesis (sy o)) (is_event (sy (o - 1))) no))
+          (and_left (is_open_parenthesis (sy o)) (is_event (sy (o - 1))) not_so))
 
       earlier : (o : ℕ) → o < i → matches j o ≡ false
       earlier o lt =
           by_test (none_in (closes_round x.symbols o) (suc o) j)
-          (λ yes. uneven o (λ same.
+          (λ is_so. uneven o (λ same.
           let low = low_while o i lt
-              (λ k from to. none_at (closes_round x.symbols o) (suc o) j k yes from (let e = le in omega arith)) in
+              (λ k from to. none_at (closes_round x.symbols o) (suc o) j k is_so from (let e = le in omega arith)) in
           let y = opened_split x.symbols o i j lt le in
           let z = closed_split x.symbols o i j lt le in
-          let u : one (opens_bracket (sy i)) ≡ one true = ap one (ap opens_bracket open) in
-          let v : one (closes_bracket (sy i)) ≡ one false = ap one (ap closes_bracket open) in
+          let u : one (opens_bracket (sy i)) ≡ one true = ap one (ap opens_bracket opener) in
+          let v : one (closes_bracket (sy i)) ≡ one false = ap one (ap closes_bracket opener) in
           let w = even in
           omega arith))
-          (λ no. and_right (opens_event x.symbols o)
+          (λ not_so. and_right (opens_event x.symbols o)
           (closes_round x.symbols o j && none_in (closes_round x.symbols o) (suc o) j)
-          (and_right (closes_round x.symbols o j) (none_in (closes_round x.symbols o) (suc o) j) no))
+          (and_right (closes_round x.symbols o j) (none_in (closes_round x.symbols o) (suc o) j) not_so))
 
       each : (o : ℕ) → o < j → (o ≡ i) ⊎ ((o < i) ⊎ (i < o)) → matches j o ≡ false
       each o lt (inl same) =
@@ -352,6 +352,6 @@ module _ (x : Setting) where
 
   pub form_round : (t a b i j : ℕ) → At x.symbols i symbol.OpenParenthesis → opens_event x.symbols i ≡ false
       → Part x.symbols t a b (suc i) j → At x.symbols j symbol.CloseParenthesis → ends_form x.symbols j ≡ false
-  form_round t a b i j open event p at =
-      form_off j (ap (λ (b : Bool). b || closes_event x.symbols j) (ap is_next at) ∙ event_no t a b i j open event p)
+  form_round t a b i j opener event p at =
+      form_off j (ap (λ (b : Bool). b || closes_event x.symbols j) (ap is_next at) ∙ event_no t a b i j opener event p)
       (ap is_close_bracket at)

@@ -101,19 +101,19 @@ module _ (symbols : List Symbol) where
 
   -- how loosely a symbol joins that joins no sequences
   pub loose_at : (n : ℕ) (s : Symbol) → At symbols n s → may_join s ≡ false → looseness symbols n ≡ loose s
-  loose_at n s at no =
+  loose_at n s at not_so =
       ap (λ (t : Symbol). cond (may_join t && begins_sequence (symbol_at symbols (n + 1))) 11 (loose t)) at
-      ∙ ap (λ (b : Bool). cond (b && begins_sequence (symbol_at symbols (n + 1))) 11 (loose s)) no
+      ∙ ap (λ (b : Bool). cond (b && begins_sequence (symbol_at symbols (n + 1))) 11 (loose s)) not_so
 
   pub loose_least_at : (n k : ℕ) (s : Symbol) → At symbols n s → loose s ≡ k → k ≤ 11 → k ≤ looseness symbols n
   loose_least_at n k s at e le =
       loose_least (joins_sequences symbols n) (symbol_at symbols n) k (ap loose at ∙ e) le
 
   pub not_behind : (t n : ℕ) → is_behind symbols n ≡ false → IsTame symbols t n
-  not_behind t n no = λ yes colon. absurd (both_ways (is_behind symbols n) no yes)
+  not_behind t n not_so = λ is_so colon. absurd (both_ways (is_behind symbols n) not_so is_so)
 
   pub tame_by : (t n : ℕ) → looseness symbols n ≤ t → IsTame symbols t n
-  tame_by t n le = λ yes colon. le
+  tame_by t n le = λ is_so colon. le
 
 module _ (x : Setting) where
   abbrev pub At_ : ℕ → Symbol → Type 0
@@ -132,7 +132,7 @@ module _ (x : Setting) where
         part = part_token x.symbols t 0 0 n opens closes tame
             (λ le. let y : one (is_question (sy x n)) ≡ one false = ap one question in
             let z : one (is_colon (sy x n)) ≡ one false = ap one (colon le) in omega arith)
-            (λ le yes. absurd (both_ways (is_colon (sy x n)) (colon le) yes));
+            (λ le is_so. absurd (both_ways (is_colon (sy x n)) (colon le) is_so));
         spanned = spanned_token x.symbols room n reach;
       })
 
@@ -273,7 +273,7 @@ module _ (x : Setting) where
         (part_token x.symbols t 0 0 i w.quiet.opens w.quiet.closes tame
         (λ small. let y : one (is_question (sy x i)) ≡ one false = ap one question in
         let z : one (is_colon (sy x i)) ≡ one false = ap one w.colon in omega arith)
-        (λ small yes. absurd (both_ways (is_colon (sy x i)) w.colon yes)))
+        (λ small is_so. absurd (both_ways (is_colon (sy x i)) w.colon is_so)))
         (part_loosen x.symbols u t 0 0 (suc i) j le p.part);
     spanned = spanned_phrase x.symbols room r i j (omega arith) (word_reach i r w)
         (phrase_ends x.symbols r u 0 0 i j p.part behind over (λ e. absurd (ten e))) p.spanned;

@@ -53,7 +53,7 @@ from_spell symbols (spell.labelled n c a p r) = item.labelled n c a p r
 
 -- what is no more than the limit isn't above it
 not_above : (n k : ℕ) → (k < n → ⊥) → n ≤ k
-not_above n k no = elim (cases_lt k n) [ inl h ↦ absurd (no h) | inr h ↦ h ]
+not_above n k not_so = elim (cases_lt k n) [ inl h ↦ absurd (not_so h) | inr h ↦ h ]
 
 module _ (text : List ℕ) (tokens : List Token) (brace : ℕ) (start : At (outside text tokens) 0 symbol.Vunit)
     (braced : At (outside text tokens) brace symbol.OpenBrace) (big : 2 ≤ brace) where
@@ -74,10 +74,10 @@ module _ (text : List ℕ) (tokens : List Token) (brace : ℕ) (start : At (outs
       let way_of = ap (λ (w : ℕ × ℕ). w.1) (full_way p (omega arith)) in
       let full : (behind_all (take p S)).1 ≡ 2048 = many.0.1 in
       let same : p - 2048 ≡ m = omega arith in
-      let no : is_wire (symbol_at S m) ≡ false =
+      let not_so : is_wire (symbol_at S m) ≡ false =
       sym (ap (λ (k : ℕ). is_wire (symbol_at S k)) same) ∙ many.1 in
       elim s.long [
-        inl h ↦ both_ways (is_wire (symbol_at S m)) no h.0
+        inl h ↦ both_ways (is_wire (symbol_at S m)) not_so h.0
         | inr h ↦ let le : e ≤ m + 2048 = h.1 short in omega arith
       ]
 
@@ -91,7 +91,7 @@ module _ (text : List ℕ) (tokens : List Token) (brace : ℕ) (start : At (outs
             let le = s.within in
             let same : m + 2048 - 2048 ≡ m = omega arith in
             let own = s.own (m + 2048) (omega arith) over in
-            let open = s.open (m + 2048) (omega arith) over in
+            let opener = s.nested (m + 2048) (omega arith) over in
             let way_of = full_way (m + 2048) (omega arith) in
             let full = ap (λ (w : ℕ × ℕ). w.1) way_of in
             let some = ap (λ (w : ℕ × ℕ). w.0) way_of in
@@ -146,7 +146,7 @@ module _ (text : List ℕ) (tokens : List Token) (brace : ℕ) (start : At (outs
   pub record Read (known : Known) (items : List RawItem) (i j : ℕ) : Type 0 where
     pub le : i ≤ j
     pub boundary : Boundary text tokens known j
-    pub items : AreItems text tokens known items i j
+    pub spelled : AreItems text tokens known items i j
 
   few_open : NoneTooDeep S (length tokens) → (m p : ℕ) → m ≤ p → p < length tokens → inner S m p ≤ 64
   few_open none m p low high =
@@ -169,7 +169,7 @@ module _ (text : List ℕ) (tokens : List Token) (brace : ℕ) (start : At (outs
       record {
         le = omega arith;
         boundary = s.next;
-        items = units.more r.items
+        spelled = units.more r.spelled
             (from_spell (symbols_in text known tokens)
             (s.fits 64 (λ n low high. few_open none m n low (omega arith))))
             (none_short room known it m j s none);
@@ -177,7 +177,7 @@ module _ (text : List ℕ) (tokens : List Token) (brace : ℕ) (start : At (outs
 
   pub read : {room : ℕ} {known : Known} {items : List RawItem} {i j : ℕ} → SpellItems text tokens room known items i j
       → NoneTooDeep S (length tokens) → brace < i → Boundary text tokens [] i → Read known items i j
-  read (spell.none {i = i}) none lt b = record { le = omega arith; boundary = b; items = units.none }
+  read (spell.none {i = i}) none lt b = record { le = omega arith; boundary = b; spelled = units.none }
   read {room = room} (spell.more {known = known} {items = items} {item = it} {i = i} {m = m} {j = j} p q) none lt b =
       read_more room known items it i m j none (read p none lt b) lt q
 

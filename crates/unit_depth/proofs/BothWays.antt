@@ -37,6 +37,12 @@ name_unbraced symbol.SequenceName h = refl
 name_unbraced symbol.PropertyName h = refl
 name_unbraced _ h = cc
 
+small_2 : 2 ≤ 2
+small_2 = omega arith
+
+small_5 : 2 ≤ 5
+small_5 = omega arith
+
 module _ (text : List ℕ) (tokens : List Token) where
   abbrev P : List Symbol
   P = outside text tokens
@@ -51,7 +57,7 @@ module _ (text : List ℕ) (tokens : List Token) where
   level_at n s at l = subst (λ (t : Symbol). Level t) (sym at) l
 
   at_seen : (n : ℕ) (s : Symbol) → At P n s → ((s ≡ symbol.Name) → ⊥) → blank s ≡ s → At S n s
-  at_seen n s at no e = moved P S (plain_seen text tokens) n s e no at
+  at_seen n s at not_so e = moved P S (plain_seen text tokens) n s e not_so at
 
   name_seen : (n : ℕ) → AnyName P n → IsTrue (is_name (symbol_at S n))
   name_seen n h = sym (by P S (plain_seen text tokens) is_name (λ s. (blanked s).name) n) ∙ h
@@ -78,7 +84,7 @@ module _ (text : List ℕ) (tokens : List Token) where
     -- ---- a unit that is bound to no module
 
     module _ (b : At P 2 symbol.OpenBrace) where
-      own : Setting
+      abbrev own : Setting
       own = seen_setting text tokens 2 a b
 
       plain_quiet : (k : ℕ) → k < 3 → is_semicolon (symbol_at P k) ≡ false
@@ -104,7 +110,7 @@ module _ (text : List ℕ) (tokens : List Token) where
       plain_unbraced (suc zero) lt = name_unbraced (symbol_at S 1) (name_seen 1 n)
       plain_unbraced (suc (suc k)) lt = absurd (omega arith)
 
-      plain_header : Header text tokens 2 a b (omega arith) 3
+      plain_header : Header text tokens 2 a b small_2 3
       plain_header = record {
         same = refl;
         quiet = plain_quiet;
@@ -118,7 +124,7 @@ module _ (text : List ℕ) (tokens : List Token) where
 
     module _ (o : At P 2 symbol.OpenParenthesis) (m : AnyName P 3) (c : At P 4 symbol.CloseParenthesis)
         (b : At P 5 symbol.OpenBrace) where
-      all : Setting
+      abbrev all : Setting
       all = seen_setting text tokens 5 a b
 
       open_seen : At S 2 symbol.OpenParenthesis
@@ -181,7 +187,7 @@ module _ (text : List ℕ) (tokens : List Token) where
           form_round all 15 0 0 2 4 open_seen
           (no_event all 1 2 refl (name_event (symbol_at S 1) name.0 name.1)) inside.part close_seen
 
-      bound_header : Header text tokens 5 a b (omega arith) 6
+      bound_header : Header text tokens 5 a b small_5 6
       bound_header = record {
         same = refl;
         quiet = bound_quiet;
@@ -200,15 +206,15 @@ module _ (text : List ℕ) (tokens : List Token) where
   to_spelled : (unit : RawUnit) → IsUnit text tokens unit → Spell text tokens unit × NoneTooDeep S (length tokens)
   to_spelled _ (units.plain {known = known} {items = items} {j = j} a n b p c e) =
       let h = plain_header a n b in
-      let r = made text tokens 2 a b (omega arith) p (omega arith) (header_boundary text tokens 2 a b (omega arith) 3 h) in (
+      let r = made text tokens 2 a b small_2 p (omega arith) (header_boundary text tokens 2 a b small_2 3 h) in (
         (64, spell.plain a n b r.spelled c e),
-        none_deep text tokens 2 a b (omega arith) known items 3 j h r c e,
+        none_deep text tokens 2 a b small_2 known items 3 j h r c e,
       )
   to_spelled _ (units.bound {known = known} {items = items} {j = j} a n o m q b p c e) =
       let h = bound_header a n o m q b in
-      let r = made text tokens 5 a b (omega arith) p (omega arith) (header_boundary text tokens 5 a b (omega arith) 6 h) in (
+      let r = made text tokens 5 a b small_5 p (omega arith) (header_boundary text tokens 5 a b small_5 6 h) in (
         (64, spell.bound a n o m q b r.spelled c e),
-        none_deep text tokens 5 a b (omega arith) known items 6 j h r c e,
+        none_deep text tokens 5 a b small_5 known items 6 j h r c e,
       )
 
   from_spelled : {room : ℕ} (unit : RawUnit) → SpellUnit text tokens room unit → NoneTooDeep S (length tokens)
@@ -216,15 +222,15 @@ module _ (text : List ℕ) (tokens : List Token) where
   from_spelled _ (spell.plain {known = known} {items = items} {j = j} a n b p c e) none =
       let h = plain_header a n b in
       let r =
-          read text tokens 2 a b (omega arith) p none (omega arith)
-          (header_boundary text tokens 2 a b (omega arith) 3 h) in
-      units.plain a n b r.items c e
+          read text tokens 2 a b small_2 p none (omega arith)
+          (header_boundary text tokens 2 a b small_2 3 h) in
+      units.plain a n b r.spelled c e
   from_spelled _ (spell.bound {known = known} {items = items} {j = j} a n o m q b p c e) none =
       let h = bound_header a n o m q b in
       let r =
-          read text tokens 5 a b (omega arith) p none (omega arith)
-          (header_boundary text tokens 5 a b (omega arith) 6 h) in
-      units.bound a n o m q b r.items c e
+          read text tokens 5 a b small_5 p none (omega arith)
+          (header_boundary text tokens 5 a b small_5 6 h) in
+      units.bound a n o m q b r.spelled c e
 
 pub unit_is : (text : List ℕ) (tokens : List Token) (unit : RawUnit)
     → IsUnit text tokens unit ↔ (Spell text tokens unit × NoneTooDeep (seen text tokens) (length tokens))
