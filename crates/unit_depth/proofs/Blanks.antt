@@ -1,13 +1,13 @@
 -- What stands open is the same for symbols that differ only in what names mean, where they join as loosely.
-use Rattle.std.proofs.Common.{◌≡◌, ℕ, zero, suc, ◌+◌, ◌-◌, ◌<◌, ◌≤◌, ◌⊎◌, inl, inr, Bool, true, false, cond, Option, Some}
-use Rattle.std.proofs.Common.{None, List, refl, sym, ap, subst, ◌∙◌, arith, nat_eq}
+use Rattle.std.proofs.Common.{◌≡◌, ℕ, zero, suc, ◌+◌, ◌-◌, ◌<◌, ◌≤◌, inl, inr, Bool, cond, Option, Some}
+use Rattle.std.proofs.Common.{None, List, refl, sym, ap, ◌∙◌, arith, nat_eq}
 use Rattle.std.proofs.lemmas.Bool.{cases_lt, lt-leb}
 use Rattle.std.specs.Prelude.{not, ◌&&◌, ◌||◌, nat_lt, nat_le}
 use Rattle.psl_grammar.specs.declared.symbols.Symbol.{Symbol}
 use Rattle.psl_grammar.specs.declared.symbols.Symbol.TheVariants as symbol
 use Rattle.psl_grammar.specs.Symbols.{symbol_at, is_name}
 use Rattle.psl_parser.specs.Places.{count_in, none_in}
-use Rattle.psl_parser.specs.Marks.{opens_bracket, closes_bracket, ends_operand, is_open_brace, is_open_parenthesis}
+use Rattle.psl_parser.specs.Marks.{opens_bracket, closes_bracket, is_open_brace, is_open_parenthesis}
 use Rattle.psl_parser.specs.Marks.{is_close_parenthesis, is_question, is_colon, is_number, is_open_bracket}
 use Rattle.psl_parser.specs.Marks.{is_close_bracket, is_next, is_event, looseness}
 use Rattle.psl_parser.specs.OpenPhrases.{opened, closed, is_bare, closes_round, opens_event, closes_event, is_head}
@@ -112,10 +112,10 @@ none_same s t a (suc k) same =
   where
     here : (s t : ℕ → Bool) (a k : ℕ) → (a ≤ k → s k ≡ t k) → (nat_le a k && s k) ≡ (nat_le a k && t k)
     here s t a k same = elim (cases_lt k a) [
-          inl h ↦
+      | inl h ↦
           ap (λ (b : Bool). b && s k) (lt-leb a k h) ∙ sym (ap (λ (b : Bool). b && t k) (lt-leb a k h))
-          | inr h ↦ ap (λ (b : Bool). nat_le a k && b) (same h)
-        ]
+      | inr h ↦ ap (λ (b : Bool). nat_le a k && b) (same h)
+    ]
 
 module _ (a b : List Symbol) (same : (n : ℕ) → blank (symbol_at a n) ≡ blank (symbol_at b n)) where
   pub by : {A : Type 0} (f : Symbol → A) → ((s : Symbol) → f s ≡ f (blank s)) → (n : ℕ)

@@ -1,5 +1,5 @@
 -- The tokens of a text are a unit exactly if they spell a tree and none of them is too deep.
-use Rattle.std.proofs.Common.{◌≡◌, ℕ, zero, suc, ◌+◌, ◌<◌, ◌≤◌, ◌↔◌, Bool, true, false, cond, Option, Some, None, List, []}
+use Rattle.std.proofs.Common.{◌≡◌, ℕ, zero, suc, ◌<◌, ◌≤◌, ◌↔◌, Bool, true, false, List}
 use Rattle.std.proofs.Common.{length, refl, sym, ap, subst, ◌∙◌, arith}
 use Rattle.std.specs.Prelude.{not, IsTrue}
 use Rattle.psl_lexer.specs.declared.kinds.Token.{Token}
@@ -10,8 +10,8 @@ use Rattle.psl_grammar.specs.Symbols.{symbol_at, At, is_name}
 use Rattle.psl_grammar.specs.ItemGrammar.{AnyName}
 use Rattle.psl_grammar.specs.Units as units
 use Rattle.psl_grammar.specs.Units.{outside, IsUnit}
-use Rattle.psl_parser.specs.Marks.{is_open_brace, is_event}
-use Rattle.psl_parser.specs.OpenPhrases.{reach_of, reach_by, is_behind, ends_form}
+use Rattle.psl_parser.specs.Marks.{is_open_brace}
+use Rattle.psl_parser.specs.OpenPhrases.{reach_by, is_behind, ends_form}
 use Rattle.psl_parser.specs.Depth.{NoneTooDeep}
 use Rattle.psl_parser.specs.Seen.{is_semicolon, seen}
 use Rattle.unit_depth.specs.Spelled as spell
@@ -19,7 +19,7 @@ use Rattle.unit_depth.specs.Spelled.{SpellUnit, Spell}
 use Rattle.unit_depth.proofs.Counting.{none_from}
 use Rattle.unit_depth.proofs.Marks.{Level, level_of, still_of, is_still, name_still}
 use Rattle.unit_depth.proofs.Phrases.{Spanned, spanned_join, spanned_token}
-use Rattle.unit_depth.proofs.Tokens.{Setting, braced_at, still_reach, still_behind, reach_any, reach_at, form_round}
+use Rattle.unit_depth.proofs.Tokens.{Setting, still_reach, still_behind, reach_any, reach_at, form_round}
 use Rattle.unit_depth.proofs.Tokens.{no_event}
 use Rattle.unit_depth.proofs.Keeping.{way}
 use Rattle.unit_depth.proofs.Told.{Told, told_inside, spanned_round}
@@ -222,14 +222,14 @@ module _ (text : List ℕ) (tokens : List Token) where
   from_spelled _ (spell.plain {known = known} {items = items} {j = j} a n b p c e) none =
       let h = plain_header a n b in
       let r =
-          read text tokens 2 a b small_2 p none (omega arith)
-          (header_boundary text tokens 2 a b small_2 3 h) in
+      read text tokens 2 a b small_2 p none (omega arith)
+      (header_boundary text tokens 2 a b small_2 3 h) in
       units.plain a n b r.spelled c e
   from_spelled _ (spell.bound {known = known} {items = items} {j = j} a n o m q b p c e) none =
       let h = bound_header a n o m q b in
       let r =
-          read text tokens 5 a b small_5 p none (omega arith)
-          (header_boundary text tokens 5 a b small_5 6 h) in
+      read text tokens 5 a b small_5 p none (omega arith)
+      (header_boundary text tokens 5 a b small_5 6 h) in
       units.bound a n o m q b r.spelled c e
 
 pub unit_is : (text : List ℕ) (tokens : List Token) (unit : RawUnit)

@@ -1,5 +1,5 @@
 -- Counting places, and what none of a span passes.
-use Rattle.std.proofs.Common.{◌≡◌, ℕ, zero, suc, ◌+◌, ◌<◌, ◌≤◌, ◌⊎◌, inl, inr, Bool, true, false, cond, refl, sym, ap}
+use Rattle.std.proofs.Common.{◌≡◌, ℕ, zero, suc, ◌+◌, ◌<◌, ◌≤◌, inl, inr, Bool, true, false, cond, refl, sym, ap}
 use Rattle.std.proofs.Common.{subst, ◌∙◌, arith}
 use Rattle.std.proofs.lemmas.Bool.{le-leb, lt-leb, cases_lt, and_from, and_parts, not-true, both_ways}
 use Rattle.std.specs.Prelude.{not, ◌&&◌, nat_le}
@@ -42,7 +42,7 @@ module _ (test : ℕ → Bool) where
       let none : count_in test a b ≡ 0 = count_none a b (omega arith) in omega arith
   count_split a b (suc k) p q =
       elim (cases_lt k b) [
-        inl h ↦ last_split a b k p (omega arith)
+        | inl h ↦ last_split a b k p (omega arith)
         | inr h ↦ more_split a b k p h (count_split a b k p h)
       ]
 
@@ -56,16 +56,16 @@ module _ (test : ℕ → Bool) where
   more_zero : (a k : ℕ) → test k ≡ false → count_in test a k ≡ 0 → count_in test a (suc k) ≡ 0
   more_zero a k not_so before =
       elim (cases_lt k a) [
-        inl h ↦ count_none a (suc k) (omega arith)
+        | inl h ↦ count_none a (suc k) (omega arith)
         | inr h ↦
-        let more = count_more a k h in let here : one (test k) ≡ one false = ap one not_so in omega arith
+            let more = count_more a k h in let here : one (test k) ≡ one false = ap one not_so in omega arith
       ]
 
   pub count_zero : (a c : ℕ) → ((k : ℕ) → a ≤ k → k < c → test k ≡ false) → count_in test a c ≡ 0
   count_zero a zero each = refl
   count_zero a (suc k) each =
       elim (cases_lt k a) [
-        inl h ↦ count_none a (suc k) (omega arith)
+        | inl h ↦ count_none a (suc k) (omega arith)
         | inr h ↦ more_zero a k (each k h (omega arith)) (count_zero a k (λ n low high. each n low (omega arith)))
       ]
 
@@ -80,9 +80,9 @@ module _ (test : ℕ → Bool) where
   count_small a zero le = omega arith
   count_small a (suc k) le =
       elim (cases_lt k a) [
-        inl h ↦ let none = count_none a (suc k) (omega arith) in omega arith
+        | inl h ↦ let none = count_none a (suc k) (omega arith) in omega arith
         | inr h ↦
-        let more = count_more a k h in
+            let more = count_more a k h in
             let before = count_small a k h in let few = one_small (test k) in omega arith
       ]
 
@@ -93,7 +93,7 @@ module _ (test : ℕ → Bool) where
   none_here : (a k : ℕ) → (a ≤ k → test k ≡ false) → not (nat_le a k && test k) ≡ true
   none_here a k not_so =
       elim (cases_lt k a) [
-        inl h ↦ ap (λ (b : Bool). not (b && test k)) (lt-leb a k h)
+        | inl h ↦ ap (λ (b : Bool). not (b && test k)) (lt-leb a k h)
         | inr h ↦ ap (λ (b : Bool). not (nat_le a k && b)) (not_so h) ∙ not_and (nat_le a k)
       ]
 
@@ -112,9 +112,9 @@ module _ (test : ℕ → Bool) where
   none_at a (suc c) k is_so low high =
       let parts = and_parts (none_in test a c) (not (nat_le a c && test c)) is_so in
       elim (cases_lt k c) [
-        inl h ↦ none_at a c k parts.0 low h
+        | inl h ↦ none_at a c k parts.0 low h
         | inr h ↦
-        let same : c ≡ k = omega arith in
+            let same : c ≡ k = omega arith in
             subst (λ (n : ℕ). test n ≡ false) same (here_not a c (omega arith) parts.1)
       ]
 
@@ -126,8 +126,8 @@ pub count_same : (s t : ℕ → Bool) (a c : ℕ) → ((k : ℕ) → a ≤ k →
 count_same s t a zero same = refl
 count_same s t a (suc k) same =
     elim (cases_lt k a) [
-      inl h ↦ count_none s a (suc k) (omega arith) ∙ sym (count_none t a (suc k) (omega arith))
+      | inl h ↦ count_none s a (suc k) (omega arith) ∙ sym (count_none t a (suc k) (omega arith))
       | inr h ↦
-      count_more s a k h ∙ ap (λ (n : ℕ). n + one (s k)) (count_same s t a k (λ n low high. same n low (omega arith)))
+          count_more s a k h ∙ ap (λ (n : ℕ). n + one (s k)) (count_same s t a k (λ n low high. same n low (omega arith)))
           ∙ ap (λ (b : Bool). count_in t a k + one b) (same k h (omega arith)) ∙ sym (count_more t a k h)
     ]

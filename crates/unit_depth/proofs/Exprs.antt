@@ -1,26 +1,25 @@
 -- What is told of the tokens of an expression.
-use Rattle.std.proofs.Common.{◌≡◌, ℕ, zero, suc, ◌+◌, ◌-◌, ◌<◌, ◌≤◌, ◌⊎◌, inl, inr, Bool, true, false, cond, Option, Some}
-use Rattle.std.proofs.Common.{None, List, refl, sym, ap, subst, ◌∙◌, arith}
+use Rattle.std.proofs.Common.{◌≡◌, ℕ, zero, suc, ◌+◌, ◌-◌, ◌<◌, ◌≤◌, inl, inr, Bool, true, false, cond, Some}
+use Rattle.std.proofs.Common.{None, refl, sym, ap, subst, ◌∙◌, arith}
 use Rattle.std.proofs.lemmas.Bool.{and_left, and_right, both_ways}
-use Rattle.std.specs.Prelude.{◌&&◌, IsTrue}
+use Rattle.std.specs.Prelude.{IsTrue}
 use Rattle.psl_grammar.specs.declared.symbols.Symbol.{Symbol}
 use Rattle.psl_grammar.specs.declared.symbols.Symbol.TheVariants as symbol
 use Rattle.psl_grammar.specs.RawExpr.{RawExpr, name, literal, unary, binary, choice}
-use Rattle.psl_grammar.specs.Symbols.{symbol_at, At, joins_sequences, may_join, begins_sequence, after_level, is_prefix}
-use Rattle.psl_grammar.specs.Symbols.{is_literal}
+use Rattle.psl_grammar.specs.Symbols.{At, joins_sequences, may_join, begins_sequence, after_level, is_prefix}
 use Rattle.psl_grammar.specs.ExprGrammar.{IsExpr, whole, bit, part, literally, parens, prefixed, joined, chosen, looser}
-use Rattle.psl_parser.specs.Marks.{opens_bracket, closes_bracket, looseness, loose, is_colon, is_question, ends_operand}
+use Rattle.psl_parser.specs.Marks.{closes_bracket, looseness, loose, is_colon, is_question, ends_operand}
 use Rattle.psl_parser.specs.Marks.{is_next, is_event, is_number, is_open_bracket, is_close_bracket}
 use Rattle.psl_parser.specs.Marks.{is_close_parenthesis}
-use Rattle.psl_parser.specs.OpenPhrases.{is_behind, reach_of, ends_form, is_head, is_count, is_range}
+use Rattle.psl_parser.specs.OpenPhrases.{is_behind, ends_form, is_head, is_count, is_range}
 use Rattle.unit_depth.proofs.Counting.{one}
-use Rattle.unit_depth.proofs.Marks.{Quiet, quiet_of, Level, level_of, Still, still_of, is_still, Word, Operator}
+use Rattle.unit_depth.proofs.Marks.{still_of, is_still, Word, Operator}
 use Rattle.unit_depth.proofs.Marks.{prefix_word, prefix_question, question_word, expr_operator, expr_level}
 use Rattle.unit_depth.proofs.Marks.{literal_still, literal_apart, prefix_apart, loose_least}
-use Rattle.unit_depth.proofs.Parts.{Part, part_join, part_loosen, part_token, part_shift, IsTame}
+use Rattle.unit_depth.proofs.Parts.{Part, part_join, part_loosen, part_token, part_shift}
 use Rattle.unit_depth.proofs.Phrases.{Spanned, Over, Fits, spanned_join, spanned_token, spanned_phrase, phrase_ends}
 use Rattle.unit_depth.proofs.Phrases.{fits_part, fits_after}
-use Rattle.unit_depth.proofs.Tokens.{Setting, sy, Fresh, fresh, behind_at, behind_unformed, reach_at, still_reach}
+use Rattle.unit_depth.proofs.Tokens.{Setting, sy, Fresh, fresh, behind_at, behind_unformed, still_reach}
 use Rattle.unit_depth.proofs.Tokens.{still_behind, form_quiet, form_off, form_square, form_round, head_off, there}
 use Rattle.unit_depth.proofs.Tokens.{count_off_0, range_off_1, behind_any, reach_any}
 use Rattle.unit_depth.proofs.Keeping.{Kept, kept_join, kept_token}
@@ -173,9 +172,9 @@ module _ (x : Setting) where
             shut unformed;
         fits = λ more f.
             let y =
-                fits_after x.symbols more 15 0 0 i (i + 1) j (j + 1) (omega arith) (omega arith) r.some (omega arith)
-                (reach_any x i symbol.OpenParenthesis at)
-                (part_loosen x.symbols 10 15 0 0 (i + 1) j (omega arith) r.told.part) f in
+            fits_after x.symbols more 15 0 0 i (i + 1) j (j + 1) (omega arith) (omega arith) r.some (omega arith)
+            (reach_any x i symbol.OpenParenthesis at)
+            (part_loosen x.symbols 10 15 0 0 (i + 1) j (omega arith) r.told.part) f in
             subst (λ (m : ℕ). IsExpr x.symbols m 0 e i (j + 1)) (sym y.1) (parens at (r.fits y.0 y.2) shut);
       }
 
@@ -195,8 +194,8 @@ module _ (x : Setting) where
             (λ e. absurd (omega (arith, e))) r.some;
         fits = λ more f.
             let y =
-                fits_after x.symbols more 0 0 0 i (i + 1) j j (omega arith) (omega arith) r.some (omega arith)
-                (word_reach x i 0 w) r.told.part f in
+            fits_after x.symbols more 0 0 0 i (i + 1) j j (omega arith) (omega arith) r.some (omega arith)
+            (word_reach x i 0 w) r.told.part f in
             subst (λ (m : ℕ). IsExpr x.symbols m 0 (unary i e) i j) (sym y.1) (prefixed h (r.fits y.0 y.2));
       }
 
@@ -314,8 +313,8 @@ module _ (x : Setting) where
         };
         fits = λ more f.
             let z =
-                fits_after x.symbols more 10 1 0 q (q + 1) j j (omega arith) (omega arith) (omega arith) (omega arith)
-                (word_reach x q 10 w) both.inner (fits_part x.symbols more i q j j (omega arith) (omega arith) f) in
+            fits_after x.symbols more 10 1 0 q (q + 1) j j (omega arith) (omega arith) (omega arith) (omega arith)
+            (word_reach x q 10 w) both.inner (fits_part x.symbols more i q j j (omega arith) (omega arith) f) in
             let test = a.fits more (fits_part x.symbols more i i q j (omega arith) (omega arith) f) in
             subst (λ (m : ℕ). IsExpr x.symbols m 10 (choice q t y n) i j) (sym z.1)
             (chosen (subst (λ (m : ℕ). IsExpr x.symbols m 9 t i q) z.1 test) at
@@ -374,7 +373,7 @@ module _ (x : Setting) where
       let first = expr_told p start (over_question q a) (λ le. absurd (omega arith)) in
       let le : x.brace ≤ q = let some = first.some in let inside = start.inside in omega arith in
       let second = expr_told v (fresh_word q 10 le (question_here q a)) (over_colon c 0 (omega arith) s)
-          (λ le. over_colon c 10 (omega arith) s) in
+      (λ le. over_colon c 10 (omega arith) s) in
       let le2 : x.brace ≤ c = let some = second.some in omega arith in
       chosen_told room i q c j t y n a s (far (omega arith)) first second
       (expr_told w (still_fresh c le2 (ap is_still s) (ap ends_operand s) (ap is_event s)) over

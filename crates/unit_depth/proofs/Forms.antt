@@ -1,26 +1,26 @@
 -- What is told of the tokens of a form of `next`: its last token opens the phrase of its operand.
-use Rattle.std.proofs.Common.{◌≡◌, ℕ, zero, suc, ◌+◌, ◌-◌, ◌<◌, ◌≤◌, ◌⊎◌, inl, inr, Bool, true, false, cond, Option, Some}
-use Rattle.std.proofs.Common.{None, List, refl, sym, ap, subst, ◌∙◌, arith}
-use Rattle.std.proofs.lemmas.Bool.{and_left, and_right, and_from, both_ways}
-use Rattle.std.specs.Prelude.{not, ◌&&◌, ◌||◌, IsTrue}
+use Rattle.std.proofs.Common.{◌≡◌, ℕ, suc, ◌+◌, ◌-◌, ◌<◌, ◌≤◌, inl, Bool, true, false, Option, Some}
+use Rattle.std.proofs.Common.{None, refl, sym, ap, subst, ◌∙◌, arith}
+use Rattle.std.proofs.lemmas.Bool.{and_from}
+use Rattle.std.specs.Prelude.{not, ◌&&◌, ◌||◌}
 use Rattle.psl_grammar.specs.declared.symbols.Symbol.{Symbol}
 use Rattle.psl_grammar.specs.declared.symbols.Symbol.TheVariants as symbol
 use Rattle.psl_grammar.specs.RawExpr.{RawExpr}
-use Rattle.psl_grammar.specs.Symbols.{symbol_at, At}
+use Rattle.psl_grammar.specs.Symbols.{At}
 use Rattle.psl_grammar.specs.PropGrammar as g
 use Rattle.psl_grammar.specs.PropGrammar.{IsCount, IsRange, IsParen, IsNextForm}
-use Rattle.psl_parser.specs.Marks.{opens_bracket, closes_bracket, looseness, is_colon, is_question, is_event, is_next}
+use Rattle.psl_parser.specs.Marks.{opens_bracket, closes_bracket, is_colon, is_question, is_event, is_next}
 use Rattle.psl_parser.specs.Marks.{is_number, is_open_bracket, is_close_bracket, is_close_parenthesis, ends_operand}
 use Rattle.psl_parser.specs.Marks.{is_open_parenthesis}
 use Rattle.psl_parser.specs.OpenPhrases.{is_behind, reach_of, reach_by, behind_by, ends_form, is_head, is_count, is_range}
 use Rattle.psl_parser.specs.OpenPhrases.{closes_event, opens_event}
 use Rattle.unit_depth.proofs.Marks.{Level, level_of, is_still}
 use Rattle.unit_depth.proofs.Parts.{Part, part_join, part_brackets, part_loosen, part_token, IsTame}
-use Rattle.unit_depth.proofs.Phrases.{Spanned, Over, Fits, spanned_none, spanned_join, spanned_token, fits_part}
+use Rattle.unit_depth.proofs.Phrases.{Spanned, Fits, spanned_none, spanned_join, spanned_token, fits_part}
 use Rattle.unit_depth.proofs.Phrases.{fits_after}
-use Rattle.unit_depth.proofs.Tokens.{Setting, sy, Fresh, fresh, behind_at, behind_any, reach_at, reach_any, still_behind}
+use Rattle.unit_depth.proofs.Tokens.{Setting, sy, Fresh, fresh, behind_any, reach_at, reach_any, still_behind}
 use Rattle.unit_depth.proofs.Tokens.{form_off, head_off, event_yes, count_off_0, range_off_0, count_tail, range_tail}
-use Rattle.unit_depth.proofs.Tokens.{braced_at, still_reach}
+use Rattle.unit_depth.proofs.Tokens.{braced_at}
 use Rattle.unit_depth.proofs.Keeping.{Kept, kept_join, kept_token}
 use Rattle.unit_depth.proofs.Told as t
 use Rattle.unit_depth.proofs.Told.{Told, told_join, told_plain, told_inside, told_still, square_of, square_kept}
@@ -210,9 +210,9 @@ module _ (x : Setting) where
             (subst (λ (m : ℕ). Spanned x.symbols room m j) back r.told.spanned) r.behind shut;
         fits = λ more f.
             let y =
-                fits_after x.symbols more 15 0 0 h (h + 1) j j (omega arith) (omega arith) r.some (omega arith)
-                (reach_any x h symbol.OpenParenthesis at)
-                (part_loosen x.symbols 10 15 0 0 (h + 1) j (omega arith) r.told.part) f in
+            fits_after x.symbols more 15 0 0 h (h + 1) j j (omega arith) (omega arith) r.some (omega arith)
+            (reach_any x h symbol.OpenParenthesis at)
+            (part_loosen x.symbols 10 15 0 0 (h + 1) j (omega arith) r.told.part) f in
             subst (λ (m : ℕ). IsParen x.symbols m e h (j + 1)) (sym y.1) (g.paren at (r.fits y.0 y.2) shut);
       }
 
@@ -365,9 +365,9 @@ module _ (x : Setting) where
       let word = event_word room i start still colon in
       let here : m ≡ r.close + 1 = let e = r.ends in omega arith in
       let unformed =
-          form_held r.close
-          (subst (λ (k : ℕ). (is_count x.symbols k || is_range x.symbols k) ≡ true) here more)
-          (ap is_close_bracket r.shut) in
+      form_held r.close
+      (subst (λ (k : ℕ). (is_count x.symbols k || is_range x.symbols k) ≡ true) here more)
+      (ap is_close_bracket r.shut) in
       let whole : Spanned x.symbols room (i + 1) m =
       spanned_join x.symbols room (i + 1) r.close m (omega arith) (let e = r.ends in omega arith) r.spanned
       (subst (λ (k : ℕ). Spanned x.symbols room r.close k) (sym r.ends)

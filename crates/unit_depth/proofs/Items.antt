@@ -1,26 +1,24 @@
 -- What is told of the tokens of an item, whatever room its body takes.
-use Rattle.std.proofs.Common.{◌≡◌, ℕ, zero, suc, ◌+◌, ◌-◌, ◌<◌, ◌≤◌, ◌⊎◌, inl, inr, Bool, true, false, Option, Some, None}
+use Rattle.std.proofs.Common.{◌≡◌, ℕ, suc, ◌+◌, ◌<◌, ◌≤◌, ◌⊎◌, inl, inr, true, false, Option, Some, None}
 use Rattle.std.proofs.Common.{List, refl, sym, ap, subst, ◌∙◌, arith}
 use Rattle.psl_grammar.specs.declared.symbols.Symbol.{Symbol}
 use Rattle.psl_grammar.specs.declared.symbols.Symbol.TheVariants as symbol
 use Rattle.psl_grammar.specs.RawUnit as raw
 use Rattle.psl_grammar.specs.RawUnit.{RawItem}
-use Rattle.psl_grammar.specs.Symbols.{symbol_at, At}
+use Rattle.psl_grammar.specs.Symbols.{At}
 use Rattle.psl_grammar.specs.PropGrammar.{IsRange}
-use Rattle.psl_grammar.specs.PropGrammar as g
 use Rattle.psl_grammar.specs.ItemGrammar as item
 use Rattle.psl_grammar.specs.ItemGrammar.{AnyName, AreNames, IsReport, IsItem, IsShort, item_limit}
-use Rattle.psl_parser.specs.Marks.{opens_bracket, closes_bracket, ends_operand, is_event, is_next, is_close_parenthesis}
+use Rattle.psl_parser.specs.Marks.{ends_operand, is_event, is_next, is_close_parenthesis}
 use Rattle.psl_parser.specs.Marks.{is_close_bracket}
-use Rattle.psl_parser.specs.OpenPhrases.{is_behind, ends_form}
 use Rattle.psl_parser.specs.Depth.{is_wire}
 use Rattle.unit_depth.specs.Spelled as spell
 use Rattle.unit_depth.specs.Spelled.{SpellItem}
-use Rattle.unit_depth.proofs.Marks.{is_still, still_of, name_still, level_of, Level}
-use Rattle.unit_depth.proofs.Parts.{Part, IsTame, looseness_small}
-use Rattle.unit_depth.proofs.Phrases.{Spanned, Fits, Over, spanned_none, spanned_join, spanned_token, spanned_more, fits_part}
-use Rattle.unit_depth.proofs.Tokens.{Setting, sy, Fresh, still_reach, still_behind, form_off, head_off, no_event}
-use Rattle.unit_depth.proofs.Keeping.{Kept, kept_none, kept_join, kept_token}
+use Rattle.unit_depth.proofs.Marks.{is_still, name_still}
+use Rattle.unit_depth.proofs.Parts.{looseness_small}
+use Rattle.unit_depth.proofs.Phrases.{Spanned, Fits, Over, spanned_none, spanned_join, spanned_more, fits_part}
+use Rattle.unit_depth.proofs.Tokens.{Setting, sy, Fresh, still_behind, form_off, head_off}
+use Rattle.unit_depth.proofs.Keeping.{Kept, kept_none, kept_join}
 use Rattle.unit_depth.proofs.Told as t
 use Rattle.unit_depth.proofs.Told.{Told, told_join, told_still, told_inside, told_square, told_round, square_of, tame_by}
 use Rattle.unit_depth.proofs.Exprs.{still_fresh, behind_next, part_unformed, round_unformed}
@@ -177,7 +175,7 @@ module _ (x : Setting) where
       → ItemTold room (raw.clock name) m e
   clocks_told room (item.clock {i = i} a b c d n f) lt =
       let lined = λ (r : ℕ). lined_join r i (i + 3) (i + 5) (head_told r i a b c)
-          (lined_told r 15 (i + 3) (i + 5) (edge_told r (i + 3) (i + 4) (i + 5) (omega arith) (omega arith) d n)) in
+      (lined_told r 15 (i + 3) (i + 5) (edge_told r (i + 3) (i + 4) (i + 5) (omega arith) (omega arith) d n)) in
       let own = lined room in
       clock_told room i (i + 5) (i + 6) (i + 4) (omega arith) (ap is_wire a) f own.kept (λ some. own.spanned)
       (item.clock a b c d n f)
@@ -185,15 +183,15 @@ module _ (x : Setting) where
       let start : Fresh x (i + 3) =
       after_at (i + 2) (i + 3) symbol.Equal (omega arith) (omega arith) c refl refl refl in
       let behind =
-          behind_next x (i + 5) (i + 6) true (omega arith)
-          (still_behind x (i + 5) (name_still (sy x (i + 5)) n).0 ∙ (name_still (sy x (i + 5)) n).1) in
+      behind_next x (i + 5) (i + 6) true (omega arith)
+      (still_behind x (i + 5) (name_still (sy x (i + 5)) n).0 ∙ (name_still (sy x (i + 5)) n).1) in
       let inside = λ (r : ℕ). edge_told r (i + 4) (i + 5) (i + 6) (omega arith) (omega arith) d n in
       let round = λ (r : ℕ). told_round x r 15 15 (i + 3) (i + 4) (i + 6) (i + 7) (omega arith) (omega arith) o
-          start.behind (inside r) behind s
-          (round_unformed x r 15 (i + 3) (i + 6) start o
-          (subst (λ (k : ℕ). Told x.symbols 1 r 15 k (i + 6)) (omega arith) (inside r)) s) in
+      start.behind (inside r) behind s
+      (round_unformed x r 15 (i + 3) (i + 6) start o
+      (subst (λ (k : ℕ). Told x.symbols 1 r 15 k (i + 6)) (omega arith) (inside r)) s) in
       let whole = λ (r : ℕ). lined_join (suc r) i (i + 3) (i + 7) (head_told (suc r) i a b c)
-          (lined_told (suc r) 15 (i + 3) (i + 7) (round r)) in
+      (lined_told (suc r) 15 (i + 3) (i + 7) (round r)) in
       let any = whole 0 in
       clock_told room i (i + 7) (i + 8) (i + 5) (omega arith) (ap is_wire a) f any.kept
       (λ some. spanned_more x.symbols 1 room i (i + 7) some any.spanned) (item.clock_parens a b c o d n s f)

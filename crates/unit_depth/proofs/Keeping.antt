@@ -1,5 +1,5 @@
 -- A span of tokens that leaves as many braces open as it found, and ends no item.
-use Rattle.std.proofs.Common.{◌≡◌, ℕ, zero, suc, ◌+◌, ◌-◌, ◌<◌, ◌≤◌, ◌⊎◌, inl, inr, Bool, true, false, cond, List, refl}
+use Rattle.std.proofs.Common.{◌≡◌, ℕ, zero, suc, ◌+◌, ◌-◌, ◌<◌, ◌≤◌, ◌⊎◌, inl, inr, Bool, false, cond, List, refl}
 use Rattle.std.proofs.Common.{sym, ap, subst, ◌∙◌, arith, nat_eq}
 use Rattle.std.proofs.lemmas.Bool.{cases_lt, and_left, ne_eqb}
 use Rattle.std.specs.Prelude.{◌&&◌}
@@ -42,19 +42,19 @@ module _ (symbols : List Symbol) where
   kept_join d i m j p q = record {
     le = let x = p.le in let y = q.le in omega arith;
     own = λ enough n low high. elim (cases_lt n m) [
-          inl h ↦ p.own enough n low h
-          | inr h ↦
+      | inl h ↦ p.own enough n low h
+      | inr h ↦
           let x = p.braces enough in
-              let y = p.behind enough in let z = q.own (omega arith) n h high in omega arith
-        ];
+          let y = p.behind enough in let z = q.own (omega arith) n h high in omega arith
+    ];
     nested = λ enough n low high. elim (cases_lt n m) [
-          inl h ↦ p.nested enough n low h
-          | inr h ↦ q.nested (let x = p.braces enough in omega arith) n h high
-        ];
+      | inl h ↦ p.nested enough n low h
+      | inr h ↦ q.nested (let x = p.braces enough in omega arith) n h high
+    ];
     on = λ enough n low high. elim (cases_lt n m) [
-          inl h ↦ p.on enough n low h
-          | inr h ↦ q.on (let x = p.braces enough in omega arith) n h high
-        ];
+      | inl h ↦ p.on enough n low h
+      | inr h ↦ q.on (let x = p.braces enough in omega arith) n h high
+    ];
     braces = λ enough. let x = p.braces enough in let y = q.braces (omega arith) in omega arith;
     behind = λ enough.
         let x = p.braces enough in
@@ -131,35 +131,35 @@ module _ (symbols : List Symbol) where
   kept_braces i j at p shut = record {
     le = let x = p.le in omega arith;
     own = λ enough n low high. let w = start enough in let w1 = w.1 in elim (place n low high) [
-          inl e ↦ ap (λ (m : ℕ). (way symbols m).1 + i) (sym e) ∙ ap (λ (m : ℕ). (way symbols i).1 + m) e
-          | inr h ↦
+      | inl e ↦ ap (λ (m : ℕ). (way symbols m).1 + i) (sym e) ∙ ap (λ (m : ℕ). (way symbols i).1 + m) e
+      | inr h ↦
           elim h [
-            inl k ↦ let x = p.own (deep enough) n k.0 k.1 in omega arith
+            | inl k ↦ let x = p.own (deep enough) n k.0 k.1 in omega arith
             | inr e ↦
-            ap (λ (m : ℕ). (way symbols m).1 + i) (sym e)
+                ap (λ (m : ℕ). (way symbols m).1 + i) (sym e)
                 ∙ (let x = p.behind (deep enough) in let y : (way symbols j).1 + i ≡ (way symbols i).1 + j = omega arith in y)
                 ∙ ap (λ (m : ℕ). (way symbols i).1 + m) e
           ]
-        ];
+    ];
     nested = λ enough n low high. let w = start enough in let w0 = w.0 in elim (place n low high) [
-          inl e ↦ subst (λ (m : ℕ). 0 < (way symbols m).0) e (omega arith)
-          | inr h ↦
+      | inl e ↦ subst (λ (m : ℕ). 0 < (way symbols m).0) e (omega arith)
+      | inr h ↦
           elim h [
-            inl k ↦ p.nested (deep enough) n k.0 k.1
+            | inl k ↦ p.nested (deep enough) n k.0 k.1
             | inr e ↦
-            subst (λ (m : ℕ). 0 < (way symbols m).0) e (let x = p.braces (deep enough) in omega arith)
+                subst (λ (m : ℕ). 0 < (way symbols m).0) e (let x = p.braces (deep enough) in omega arith)
           ]
-        ];
+    ];
     on = λ enough n low high. elim (place n low high) [
-          inl e ↦
+      | inl e ↦
           subst (λ (m : ℕ). ends_here symbols m ≡ false) e (brace_on i symbol.OpenBrace at refl)
-          | inr h ↦
+      | inr h ↦
           elim h [
-            inl k ↦ p.on (deep enough) n k.0 k.1
+            | inl k ↦ p.on (deep enough) n k.0 k.1
             | inr e ↦
-            subst (λ (m : ℕ). ends_here symbols m ≡ false) e (brace_on j symbol.CloseBrace shut refl)
+                subst (λ (m : ℕ). ends_here symbols m ≡ false) e (brace_on j symbol.CloseBrace shut refl)
           ]
-        ];
+    ];
     braces = λ enough.
         let w = start enough in
         let w0 = w.0 in
@@ -186,7 +186,7 @@ module _ (symbols : List Symbol) where
       place : (n : ℕ) → i ≤ n → n < suc j → (i ≡ n) ⊎ (((suc i ≤ n) × (n < j)) ⊎ (j ≡ n))
       place n low high =
           elim (cases_lt i n) [
-            inl h ↦
-            elim (cases_lt n j) [ inl k ↦ inr (inl (h, k)) | inr k ↦ inr (inr (omega arith)) ]
+            | inl h ↦
+                elim (cases_lt n j) [ inl k ↦ inr (inl (h, k)) | inr k ↦ inr (inr (omega arith)) ]
             | inr h ↦ inl (omega arith)
           ]

@@ -1,5 +1,5 @@
 -- What single symbols do to phrases, brackets and items.
-use Rattle.std.proofs.Common.{◌≡◌, ℕ, suc, ◌<◌, ◌≤◌, Bool, true, false, cond, Option, Some, None, refl, arith, nat_eq}
+use Rattle.std.proofs.Common.{◌≡◌, ℕ, suc, ◌<◌, ◌≤◌, Bool, true, false, cond, Some, None, refl, arith, nat_eq}
 use Rattle.std.proofs.lemmas.Bool.{ne_eqb}
 use Rattle.std.specs.Prelude.{◌&&◌, IsTrue}
 use Rattle.psl_grammar.specs.declared.symbols.Symbol.{Symbol}

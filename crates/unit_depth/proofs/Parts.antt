@@ -1,8 +1,8 @@
 -- A span of tokens seen from a phrase that is open around it: its brackets are closed in it, and how loosely its bare
 -- tokens join.
-use Rattle.std.proofs.Common.{◌≡◌, ℕ, zero, suc, ◌+◌, ◌<◌, ◌≤◌, ◌⊎◌, inl, inr, Bool, true, false, cond, List, refl, sym}
-use Rattle.std.proofs.Common.{ap, subst, ◌∙◌, arith, nat_eq}
-use Rattle.std.proofs.lemmas.Bool.{cases_lt, cases_eq, and_left, and_right, both_ways, eq-eqb, ne_eqb, eqb-true}
+use Rattle.std.proofs.Common.{◌≡◌, ℕ, suc, ◌+◌, ◌<◌, ◌≤◌, inl, inr, Bool, true, false, List, sym}
+use Rattle.std.proofs.Common.{ap, subst, ◌∙◌, arith}
+use Rattle.std.proofs.lemmas.Bool.{cases_lt, and_left, and_right, both_ways, eq-eqb, ne_eqb, eqb-true}
 use Rattle.std.specs.Prelude.{◌&&◌}
 use Rattle.psl_grammar.specs.declared.symbols.Symbol.{Symbol}
 use Rattle.psl_grammar.specs.Symbols.{symbol_at, joins_sequences}
@@ -108,25 +108,25 @@ module _ (symbols : List Symbol) where
   part_join t a b c i m j p q = record {
     le = let x = p.le in let y = q.le in omega arith;
     low = λ o n lt bare low high. elim (cases_lt m n) [
-          inl h ↦ q.low o n (let x = p.le in omega arith) (p.even o lt bare) (omega arith) high
-          | inr h ↦ p.low o n lt bare low h
-        ];
+      | inl h ↦ q.low o n (let x = p.le in omega arith) (p.even o lt bare) (omega arith) high
+      | inr h ↦ p.low o n lt bare low h
+    ];
     even = λ o lt bare. q.even o (let x = p.le in omega arith) (p.even o lt bare);
     tame = λ o n lt bare low high here behind not_so. elim (cases_lt n m) [
-          inl h ↦ p.tame o n lt bare low h here behind not_so
-          | inr h ↦ q.tame o n (let x = p.le in omega arith) (p.even o lt bare) h high here behind not_so
-        ];
+      | inl h ↦ p.tame o n lt bare low h here behind not_so
+      | inr h ↦ q.tame o n (let x = p.le in omega arith) (p.even o lt bare) h high here behind not_so
+    ];
     choices = λ o le lt bare.
         let x = p.choices o le lt bare in
         let y = q.choices o le (let z = p.le in omega arith) (p.even o lt bare) in
         omega arith;
     colon = λ o n le lt bare low high here is_so. elim (cases_lt n m) [
-          inl h ↦ p.colon o n le lt bare low h here is_so
-          | inr h ↦
+      | inl h ↦ p.colon o n le lt bare low h here is_so
+      | inr h ↦
           let x = p.choices o le lt bare in
-              let y = q.colon o n le (let z = p.le in omega arith) (p.even o lt bare) h high here is_so in
-              omega arith
-        ];
+          let y = q.colon o n le (let z = p.le in omega arith) (p.even o lt bare) h high here is_so in
+          omega arith
+    ];
   }
 
   -- with as many more colons that are asked for
@@ -149,11 +149,11 @@ module _ (symbols : List Symbol) where
     low = p.low;
     even = p.even;
     tame = λ o n lt bare low high here behind not_so. elim (cases_lt 10 u) [
-          inl h ↦
+      | inl h ↦
           by_test (is_colon (symbol_at symbols n)) (λ is_so. let x = colon_loose n is_so in omega arith)
-              (λ other. let x = p.tame o n lt bare low high here behind (λ e. other) in omega arith)
-          | inr h ↦ let x = p.tame o n lt bare low high here behind (λ e. not_so (omega arith)) in omega arith
-        ];
+          (λ other. let x = p.tame o n lt bare low high here behind (λ e. other) in omega arith)
+      | inr h ↦ let x = p.tame o n lt bare low high here behind (λ e. not_so (omega arith)) in omega arith
+    ];
     choices = λ o small lt bare. p.choices o (omega arith) lt bare;
     colon = λ o n small lt bare low high here is_so. p.colon o n (omega arith) lt bare low high here is_so;
   }
@@ -175,7 +175,7 @@ module _ (symbols : List Symbol) where
   one_or_next : (n k : ℕ) → n ≤ k → k ≤ suc n → (P : ℕ → Type 0) → P n → P (suc n) → P k
   one_or_next n k low high P x y =
       elim (cases_lt n k) [
-        inl h ↦ let same : suc n ≡ k = omega arith in subst P same y
+        | inl h ↦ let same : suc n ≡ k = omega arith in subst P same y
         | inr h ↦ let same : n ≡ k = omega arith in subst P same x
       ]
 
@@ -245,18 +245,18 @@ module _ (symbols : List Symbol) where
       ≡ count_in (λ k. is_bare symbols o k && f (symbol_at symbols k)) (suc o) i
   no_more i j f not_so round le o lt bare =
       let split =
-          count_split (λ k. is_bare symbols o k && f (symbol_at symbols k)) (suc o) i (suc j) lt (omega arith) in
+      count_split (λ k. is_bare symbols o k && f (symbol_at symbols k)) (suc o) i (suc j) lt (omega arith) in
       let none =
-          count_zero (λ k. is_bare symbols o k && f (symbol_at symbols k)) i (suc j)
-          (λ k low high. elim (cases_lt i k) [
-            inl h ↦
+      count_zero (λ k. is_bare symbols o k && f (symbol_at symbols k)) i (suc j)
+      (λ k low high. elim (cases_lt i k) [
+        | inl h ↦
             and_left (is_bare symbols o k) (f (symbol_at symbols k))
-                (bare_no o k (round o k lt bare h (omega arith)))
-            | inr h ↦
+            (bare_no o k (round o k lt bare h (omega arith)))
+        | inr h ↦
             let same : i ≡ k = omega arith in
-                and_right (is_bare symbols o k) (f (symbol_at symbols k))
-                (subst (λ (m : ℕ). f (symbol_at symbols m) ≡ false) same not_so)
-          ]) in
+            and_right (is_bare symbols o k) (f (symbol_at symbols k))
+            (subst (λ (m : ℕ). f (symbol_at symbols m) ≡ false) same not_so)
+      ]) in
       omega arith
 
   pub part_brackets : (t a u x y i j : ℕ) → opens_bracket (symbol_at symbols i) ≡ true
@@ -271,36 +271,36 @@ module _ (symbols : List Symbol) where
       record {
         le = omega arith;
         low = λ o n lt bare low high. elim (cases_lt i n) [
-              inl h ↦
+          | inl h ↦
               elim (cases_lt j n) [
-                inl past ↦
-                let same : suc j ≡ n = omega arith in
+                | inl past ↦
+                    let same : suc j ≡ n = omega arith in
                     subst (λ (m : ℕ). closed symbols o m ≤ opened symbols o m) same
                     (let e = even o lt bare in omega arith)
                 | inr before ↦ let z = round o n lt bare h before in omega arith
               ]
-              | inr h ↦
+          | inr h ↦
               let same : i ≡ n = omega arith in
-                  subst (λ (m : ℕ). closed symbols o m ≤ opened symbols o m) same (omega arith)
-            ];
+              subst (λ (m : ℕ). closed symbols o m ≤ opened symbols o m) same (omega arith)
+        ];
         even = even;
         tame = λ o n lt bare low high here behind other. elim (cases_lt i n) [
-              inl h ↦ let z = round o n lt bare h (omega arith) in absurd (omega arith)
-              | inr h ↦
+          | inl h ↦ let z = round o n lt bare h (omega arith) in absurd (omega arith)
+          | inr h ↦
               let same : n ≡ i = omega arith in
-                  subst (λ (m : ℕ). looseness symbols m ≤ t) (sym same)
-                  (tame (subst (λ (m : ℕ). is_behind symbols m ≡ true) same behind)
-                  (subst (λ (m : ℕ). t ≡ 10 → is_colon (symbol_at symbols m) ≡ false) same other))
-            ];
+              subst (λ (m : ℕ). looseness symbols m ≤ t) (sym same)
+              (tame (subst (λ (m : ℕ). is_behind symbols m ≡ true) same behind)
+              (subst (λ (m : ℕ). t ≡ 10 → is_colon (symbol_at symbols m) ≡ false) same other))
+        ];
         choices = λ o small lt bare.
             let q = no_more i j is_question question round (omega arith) o lt bare in
             let c = no_more i j is_colon colon round (omega arith) o lt bare in
             omega arith;
         colon = λ o n small lt bare low high here there. elim (cases_lt i n) [
-              inl h ↦ let z = round o n lt bare h (omega arith) in absurd (omega arith)
-              | inr h ↦
+          | inl h ↦ let z = round o n lt bare h (omega arith) in absurd (omega arith)
+          | inr h ↦
               let same : n ≡ i = omega arith in
-                  absurd (both_ways (is_colon (symbol_at symbols i)) colon
-                  (subst (λ (m : ℕ). is_colon (symbol_at symbols m) ≡ true) same there))
-            ];
+              absurd (both_ways (is_colon (symbol_at symbols i)) colon
+              (subst (λ (m : ℕ). is_colon (symbol_at symbols m) ≡ true) same there))
+        ];
       }

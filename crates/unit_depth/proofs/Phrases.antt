@@ -1,12 +1,12 @@
 -- In how many phrases that a span opens its tokens stand, and that all of them end with it.
-use Rattle.std.proofs.Common.{◌≡◌, ℕ, zero, suc, ◌+◌, ◌<◌, ◌≤◌, ◌⊎◌, inl, inr, Bool, true, false, cond, Option, Some, None}
+use Rattle.std.proofs.Common.{◌≡◌, ℕ, zero, suc, ◌<◌, ◌≤◌, ◌⊎◌, inl, inr, Bool, true, false, cond, Option, Some, None}
 use Rattle.std.proofs.Common.{List, refl, sym, ap, subst, ◌∙◌, arith, nat_eq}
-use Rattle.std.proofs.lemmas.Bool.{cases_lt, cases_eq, and_left, and_right, and_from, both_ways, ne_eqb, eqb-true}
+use Rattle.std.proofs.lemmas.Bool.{cases_lt, eqb-true}
 use Rattle.std.proofs.lemmas.Bool.{eq-eqb, lt-ltb, le-ltb}
 use Rattle.std.specs.Prelude.{◌&&◌, ◌||◌, nat_lt}
 use Rattle.psl_grammar.specs.declared.symbols.Symbol.{Symbol}
 use Rattle.psl_grammar.specs.Symbols.{symbol_at}
-use Rattle.psl_parser.specs.Places.{count_in, none_in}
+use Rattle.psl_parser.specs.Places.{count_in}
 use Rattle.psl_parser.specs.Marks.{closes_bracket, opens_bracket, looseness, is_colon}
 use Rattle.psl_parser.specs.OpenPhrases.{opened, closed, is_bare, is_behind, questions, colons, is_beyond, ends}
 use Rattle.psl_parser.specs.OpenPhrases.{reach_of, stands_by, stands_in}
@@ -57,13 +57,13 @@ module _ (symbols : List Symbol) where
       → Spanned symbols room i j
   spanned_join room i m j le le2 s t = record {
     within = λ p low high. elim (cases_lt p m) [
-          inl h ↦ s.within p low h
-          | inr h ↦ let x = inner_past room i m p le h s in let y = t.within p h high in omega arith
-        ];
+      | inl h ↦ s.within p low h
+      | inr h ↦ let x = inner_past room i m p le h s in let y = t.within p h high in omega arith
+    ];
     ended = λ o p low high past. elim (cases_lt o m) [
-          inl h ↦ s.ended o p low h (omega arith)
-          | inr h ↦ t.ended o p h high past
-        ];
+      | inl h ↦ s.ended o p low h (omega arith)
+      | inr h ↦ t.ended o p h high past
+    ];
   }
 
   pub spanned_more : (room more i j : ℕ) → room ≤ more → Spanned symbols room i j → Spanned symbols more i j
@@ -192,20 +192,20 @@ module _ (symbols : List Symbol) where
       → Spanned symbols room (suc i) j → Spanned symbols (suc room) i j
   spanned_phrase room r i j some reach is_so s = record {
     within = λ p low high. elim (cases_lt i p) [
-          inl h ↦
+      | inl h ↦
           let first = count_first (λ o. stands_in symbols o p) i p h in
-              let few = one_small (stands_in symbols i p) in
-              let x = s.within p h high in
-              omega arith
-          | inr h ↦
+          let few = one_small (stands_in symbols i p) in
+          let x = s.within p h high in
+          omega arith
+      | inr h ↦
           let none : inner symbols i p ≡ 0 = count_none (λ o. stands_in symbols o p) i p h in omega arith
-        ];
+    ];
     ended = λ o p low high past. elim (cases_lt i o) [
-          inl h ↦ s.ended o p h high past
-          | inr h ↦
+      | inl h ↦ s.ended o p h high past
+      | inr h ↦
           let same : i ≡ o = omega arith in
-              subst (λ (k : ℕ). stands_in symbols k p ≡ false) same (stands_not r i j p reach some past is_so)
-        ];
+          subst (λ (k : ℕ). stands_in symbols k p ≡ false) same (stands_not r i j p reach some past is_so)
+    ];
   }
 
   -- ---- where a span fits
@@ -227,14 +227,18 @@ module _ (symbols : List Symbol) where
       let x : one (stands_in symbols i (suc i)) ≡ one true = ap one here in
       let whole = fits (suc i) (omega arith) some in
       absurd (omega arith)
-  fits_phrase (suc less) i j some here stays fits = (less, refl, λ p low high. elim (stays p low high) [
-    inl is_so ↦
-    let first = count_first (λ o. stands_in symbols o p) i p low in
-        let x : one (stands_in symbols i p) ≡ one true = ap one is_so in
-        let whole = fits p (omega arith) high in
-        omega arith
-    | inr none ↦ omega arith
-  ])
+  fits_phrase (suc less) i j some here stays fits = (
+    less,
+    refl,
+    λ p low high. elim (stays p low high) [
+      | inl is_so ↦
+          let first = count_first (λ o. stands_in symbols o p) i p low in
+          let x : one (stands_in symbols i p) ≡ one true = ap one is_so in
+          let whole = fits p (omega arith) high in
+          omega arith
+      | inr none ↦ omega arith
+    ],
+  )
 
   pub fits_opened : (room r a b i j : ℕ) → a ≤ 1 → suc i < j → reach_of symbols i ≡ Some r
       → Part symbols r a b (suc i) j → Fits symbols room i j
@@ -250,6 +254,6 @@ module _ (symbols : List Symbol) where
       → Part symbols r a b k j → Fits symbols room i l → (less : ℕ) × (room ≡ suc less) × Fits symbols less k j
   fits_after room r a b i k j l same few some le reach p fits =
       let y =
-          fits_opened room r a b i j few (omega arith) reach (subst (λ (m : ℕ). Part symbols r a b m j) same p)
-          (fits_part room i i j l (omega arith) le fits) in
+      fits_opened room r a b i j few (omega arith) reach (subst (λ (m : ℕ). Part symbols r a b m j) same p)
+      (fits_part room i i j l (omega arith) le fits) in
       (y.0, y.1, subst (λ (m : ℕ). Fits symbols y.0 m j) (sym same) y.2)

@@ -1,30 +1,28 @@
 -- What is told of the tokens of a property, rule by rule.
-use Rattle.std.proofs.Common.{◌≡◌, ℕ, zero, suc, ◌+◌, ◌-◌, ◌<◌, ◌≤◌, ◌⊎◌, inl, inr, Bool, true, false, Option, Some, None}
-use Rattle.std.proofs.Common.{List, refl, sym, ap, subst, ◌∙◌, arith}
+use Rattle.std.proofs.Common.{◌≡◌, ℕ, suc, ◌+◌, ◌≤◌, inl, true, false}
+use Rattle.std.proofs.Common.{refl, ap, subst, ◌∙◌, arith}
 use Rattle.psl_grammar.specs.declared.symbols.Symbol.{Symbol}
 use Rattle.psl_grammar.specs.declared.symbols.Symbol.TheVariants as symbol
-use Rattle.psl_grammar.specs.RawExpr.{RawExpr}
 use Rattle.psl_grammar.specs.RawSere as sere
 use Rattle.psl_grammar.specs.RawProp as raw
 use Rattle.psl_grammar.specs.RawProp.{RawProp}
-use Rattle.psl_grammar.specs.Symbols.{symbol_at, At}
+use Rattle.psl_grammar.specs.Symbols.{At}
 use Rattle.psl_grammar.specs.PropGrammar as g
 use Rattle.psl_grammar.specs.PropGrammar.{Phrase, IsProp}
 use Rattle.psl_parser.specs.Marks.{opens_bracket, closes_bracket, is_question, ends_operand, is_event}
-use Rattle.psl_parser.specs.OpenPhrases.{is_behind}
 use Rattle.unit_depth.proofs.Marks.{is_still, always_word, arrow_word, suffix_word, eventually_word}
 use Rattle.unit_depth.proofs.Parts.{Part, within_brackets}
-use Rattle.unit_depth.proofs.Phrases.{Over, over_less, Fits, fits_part}
-use Rattle.unit_depth.proofs.Tokens.{Setting, sy, Fresh}
+use Rattle.unit_depth.proofs.Phrases.{Over, over_less, fits_part}
+use Rattle.unit_depth.proofs.Tokens.{Setting, Fresh}
 use Rattle.unit_depth.proofs.Told as t
 use Rattle.unit_depth.proofs.Told.{word_reach, loose_at}
 use Rattle.unit_depth.proofs.Exprs.{expr_told, fresh_open, fresh_word, prefix_here, still_fresh}
 use Rattle.unit_depth.proofs.Seres.{sere_told, seq_told, timed_told}
 use Rattle.unit_depth.proofs.Forms.{form_told}
 use Rattle.unit_depth.proofs.Weak.{IsWeak, sere_weak, weak_round, weak_prefix, weak_strong}
-use Rattle.unit_depth.proofs.Props.{need, span, PropTold, turned, bool_step, parens_told, named_told, strong_told}
+use Rattle.unit_depth.proofs.Props.{need, PropTold, turned, bool_step, parens_told, named_told, strong_told}
 use Rattle.unit_depth.proofs.Props.{exclaimed, negated_told, opening_told, arrow_told, word_at, pair_told, abort_told}
-use Rattle.unit_depth.proofs.Props.{next_told, prop_begin, over_at, over_far, joins_small, behind_place, left_fits}
+use Rattle.unit_depth.proofs.Props.{next_told, prop_begin, over_at, over_far, joins_small, behind_place}
 
 module _ (x : Setting) where
   after_still : (m : ℕ) (s : Symbol) → x.brace ≤ m → At x.symbols m s → is_still s ≡ true → ends_operand s ≡ false
@@ -44,7 +42,7 @@ module _ (x : Setting) where
       → PropTold x room phrase p i j × (phrase ≡ g.primary → IsWeak x.symbols i j)
   prop_told (g.parens {room = room} {p = p} {i = i} {j = j} a h nb c) start le over =
       let r = prop_told h (fresh_open x i (i + 1) (omega arith) (let lt = start.inside in omega arith) a) (omega arith)
-          (closes_over 14 j c) in
+      (closes_over 14 j c) in
       let inside = r.0 in
       let back : i + 1 ≡ suc i = omega arith in (
         parens_told x room i j p start a c nb inside,
@@ -153,8 +151,8 @@ module _ (x : Setting) where
       let u = (prop_told h start le (over_at x 10 m 11 symbol.Abort a refl (omega arith) (omega arith))).0 in
       let lt = u.some in
       let v =
-          expr_told x q.0 (after_still m symbol.Abort (behind_place x i m start lt) a refl refl refl)
-          (over_less x.symbols 0 10 j (omega arith) over) (λ big. over) in (
+      expr_told x q.0 (after_still m symbol.Abort (behind_place x i m start lt) a refl refl refl)
+      (over_less x.symbols 0 10 j (omega arith) over) (λ big. over) in (
         abort_told x room i m j p e a u v (λ more y z. g.abt_abort y a (z, q.1)),
         λ same. absurd (cc),
       )
@@ -225,8 +223,8 @@ module _ (x : Setting) where
       let u = (prop_told p start le (over_far x 13 m 14 symbol.DoubleArrow a refl refl (omega arith))).0 in
       let lt = u.some in
       let v =
-          (prop_told q (after_still m symbol.DoubleArrow (behind_place x i m start lt) a refl refl refl) (omega arith)
-          (over_less x.symbols 13 14 j (omega arith) over)).0 in (
+      (prop_told q (after_still m symbol.DoubleArrow (behind_place x i m start lt) a refl refl refl) (omega arith)
+      (over_less x.symbols 13 14 j (omega arith) over)).0 in (
         pair_told x room i m j g.suff g.suff g.impl l r (raw.binary m l r) (ap is_still a) (omega arith) (omega arith)
             (omega arith) (joins_small x m 14 symbol.DoubleArrow a (omega arith) (omega arith))
             (λ more y z. g.impl_iff y a z) u v,

@@ -1,40 +1,38 @@
 -- What is told of the tokens of a property.
-use Rattle.std.proofs.Common.{◌≡◌, ℕ, zero, suc, ◌+◌, ◌-◌, ◌<◌, ◌≤◌, ◌⊎◌, inl, inr, Bool, true, false, cond, Option, Some}
-use Rattle.std.proofs.Common.{None, List, refl, sym, ap, subst, ◌∙◌, arith}
+use Rattle.std.proofs.Common.{◌≡◌, ℕ, suc, ◌+◌, ◌<◌, ◌≤◌, inr, Bool, true, false, cond, Option}
+use Rattle.std.proofs.Common.{refl, sym, ap, subst, ◌∙◌, arith}
 use Rattle.std.specs.Prelude.{IsTrue}
 use Rattle.psl_grammar.specs.declared.symbols.Symbol.{Symbol}
 use Rattle.psl_grammar.specs.declared.symbols.Symbol.TheVariants as symbol
 use Rattle.psl_grammar.specs.RawExpr.{RawExpr}
-use Rattle.psl_grammar.specs.RawSere as sere
 use Rattle.psl_grammar.specs.RawSere.{RawSere}
 use Rattle.psl_grammar.specs.RawProp as raw
 use Rattle.psl_grammar.specs.RawProp.{RawProp}
-use Rattle.psl_grammar.specs.Symbols.{symbol_at, At, joins_sequences, may_join, is_prefix, is_literal}
+use Rattle.psl_grammar.specs.Symbols.{At, joins_sequences, may_join, is_prefix, is_literal}
 use Rattle.psl_grammar.specs.ExprGrammar.{IsExpr, whole, bit, part, literally, parens, prefixed, joined, chosen, looser}
 use Rattle.psl_grammar.specs.SereGrammar as s
 use Rattle.psl_grammar.specs.SereGrammar.{IsTimed, IsSere, IsSeq}
 use Rattle.psl_grammar.specs.PropGrammar as g
 use Rattle.psl_grammar.specs.PropGrammar.{IsNextForm, Phrase, IsProp, is_bool, are_bool}
-use Rattle.psl_parser.specs.Marks.{opens_bracket, closes_bracket, looseness, loose, is_colon, is_question, ends_operand}
-use Rattle.psl_parser.specs.Marks.{is_event, is_exclamation, is_open_bracket}
-use Rattle.psl_parser.specs.OpenPhrases.{is_behind, reach_of, reach_by, behind_by, stands_in}
-use Rattle.unit_depth.proofs.Marks.{Quiet, quiet_of, Level, level_of, is_still, Word, always_word, arrow_word}
-use Rattle.unit_depth.proofs.Marks.{suffix_word, eventually_word, prefix_question}
-use Rattle.unit_depth.proofs.Parts.{Part, part_join, part_loosen, IsTame, within_brackets}
-use Rattle.unit_depth.proofs.Phrases.{Spanned, Over, Fits, spanned_join, spanned_phrase, phrase_ends, over_less, fits_part}
+use Rattle.psl_parser.specs.Marks.{looseness, loose, is_colon, is_question, ends_operand}
+use Rattle.psl_parser.specs.Marks.{is_open_bracket}
+use Rattle.psl_parser.specs.OpenPhrases.{is_behind, reach_by}
+use Rattle.unit_depth.proofs.Marks.{Quiet, quiet_of, Level, level_of, is_still, Word}
+use Rattle.unit_depth.proofs.Marks.{prefix_question}
+use Rattle.unit_depth.proofs.Parts.{Part, part_join, part_loosen}
+use Rattle.unit_depth.proofs.Phrases.{Spanned, Over, Fits, spanned_join, spanned_phrase, phrase_ends, fits_part}
 use Rattle.unit_depth.proofs.Phrases.{fits_after, fits_phrase}
-use Rattle.unit_depth.proofs.Tokens.{Setting, sy, Fresh, fresh, behind_at, reach_at, reach_any, still_behind, braced_at}
+use Rattle.unit_depth.proofs.Tokens.{Setting, sy, Fresh, behind_at, reach_at, reach_any, still_behind, braced_at}
 use Rattle.unit_depth.proofs.Tokens.{form_quiet}
-use Rattle.unit_depth.proofs.Keeping.{Kept, kept_join}
+use Rattle.unit_depth.proofs.Keeping.{kept_join}
 use Rattle.unit_depth.proofs.Told as t
 use Rattle.unit_depth.proofs.Told.{Told, told_join, told_more, told_still, told_token, told_round, told_word, word_reach}
 use Rattle.unit_depth.proofs.Told.{loose_at, loose_least_at, not_behind, tame_by}
-use Rattle.unit_depth.proofs.Exprs.{ExprTold, expr_told, behind_next, fresh_open, fresh_word, prefix_here, still_fresh}
+use Rattle.unit_depth.proofs.Exprs.{ExprTold, behind_next, prefix_here}
 use Rattle.unit_depth.proofs.Exprs.{round_unformed}
 use Rattle.unit_depth.proofs.Repeats.{times_begin}
-use Rattle.unit_depth.proofs.Seres.{SereTold, sere_told, SeqTold, seq_told, TimedTold, timed_told}
-use Rattle.unit_depth.proofs.Forms.{FormTold, form_told}
-use Rattle.unit_depth.proofs.Weak.{IsWeak, sere_weak, weak_round, weak_prefix, weak_strong, weak_stays}
+use Rattle.unit_depth.proofs.Forms.{FormTold}
+use Rattle.unit_depth.proofs.Weak.{IsWeak, weak_stays}
 
 -- how loosely the token behind such a phrase must join
 abbrev pub need : Phrase → ℕ
@@ -232,9 +230,9 @@ module _ (x : Setting) where
             shut unformed;
         fits = λ more f.
             let y =
-                fits_after x.symbols more 15 0 0 i (i + 1) j (j + 1) (omega arith) (omega arith) r.some (omega arith)
-                (reach_any x i symbol.OpenParenthesis at)
-                (part_loosen x.symbols 14 15 0 0 (i + 1) j (omega arith) r.told.part) f in
+            fits_after x.symbols more 15 0 0 i (i + 1) j (j + 1) (omega arith) (omega arith) r.some (omega arith)
+            (reach_any x i symbol.OpenParenthesis at)
+            (part_loosen x.symbols 14 15 0 0 (i + 1) j (omega arith) r.told.part) f in
             subst (λ (m : ℕ). IsProp x.symbols m g.primary p i (j + 1)) (sym y.1)
             (g.parens at (r.fits y.0 y.2) nb shut);
       }
@@ -295,10 +293,10 @@ module _ (x : Setting) where
             (λ e. absurd (omega (arith, e))) r.some;
         fits = λ more f.
             let stays =
-                weak_stays x.symbols 11 0 0 i j (word_reach x i 0 w)
-                (subst (λ (m : ℕ). Part x.symbols 11 0 0 m j) back r.told.part)
-                (subst (λ (m : ℕ). is_behind x.symbols m ≡ false) back next.behind)
-                (subst (λ (m : ℕ). IsWeak x.symbols m j) back weak) (omega arith) in
+            weak_stays x.symbols 11 0 0 i j (word_reach x i 0 w)
+            (subst (λ (m : ℕ). Part x.symbols 11 0 0 m j) back r.told.part)
+            (subst (λ (m : ℕ). is_behind x.symbols m ≡ false) back next.behind)
+            (subst (λ (m : ℕ). IsWeak x.symbols m j) back weak) (omega arith) in
             let y = fits_phrase x.symbols more i j (omega arith) stays.1 stays.0 f in
             subst (λ (m : ℕ). IsProp x.symbols m g.primary (raw.prefix i p) i j) (sym y.1)
             (g.negated at (r.fits y.0 (subst (λ (m : ℕ). Fits x.symbols y.0 m j) (sym back) y.2)));
@@ -322,8 +320,8 @@ module _ (x : Setting) where
             (omega arith) u.behind over ten u.some);
         fits = λ more f.
             let y =
-                fits_after x.symbols more r 0 0 i (i + 1) j j (omega arith) (omega arith) u.some (omega arith)
-                (word_reach x i r w) own.part f in
+            fits_after x.symbols more r 0 0 i (i + 1) j j (omega arith) (omega arith) u.some (omega arith)
+            (word_reach x i r w) own.part f in
             subst (λ (m : ℕ). IsProp x.symbols m b q i j) (sym y.1) (make y.0 (u.fits y.0 y.2));
       }
 
@@ -339,8 +337,8 @@ module _ (x : Setting) where
       let own : Told x.symbols 1 room r (m + 1) j =
       subst (λ (n : ℕ). Told x.symbols 1 room n (m + 1) j) same u.told in
       let right =
-          told_word x room r r r m (m + 1) j (omega arith) w question (tame_by x.symbols r m le) own (omega arith)
-          u.behind over ten u.some in
+      told_word x room r r r m (m + 1) j (omega arith) w question (tame_by x.symbols r m le) own (omega arith)
+      u.behind over ten u.some in
       record {
         some = omega arith;
         behind = u.behind;
@@ -348,10 +346,10 @@ module _ (x : Setting) where
             (told_join x.symbols 1 (suc room) r i m j left right);
         fits = λ more f.
             let y =
-                fits_after x.symbols more r 0 0 m (m + 1) j j (omega arith) (omega arith) u.some (omega arith)
-                (word_reach x m r w) own.part (fits_part x.symbols more i m j j (omega arith) (omega arith) f) in
+            fits_after x.symbols more r 0 0 m (m + 1) j j (omega arith) (omega arith) u.some (omega arith)
+            (word_reach x m r w) own.part (fits_part x.symbols more i m j j (omega arith) (omega arith) f) in
             let before =
-                subst (λ (n : ℕ). Fits x.symbols n i m) y.1 (left_fits more i m j (omega arith) f) in
+            subst (λ (n : ℕ). Fits x.symbols n i m) y.1 (left_fits more i m j (omega arith) f) in
             subst (λ (n : ℕ). IsProp x.symbols n b q i j) (sym y.1) (make y.0 before (u.fits y.0 y.2));
       }
 
@@ -419,8 +417,8 @@ module _ (x : Setting) where
         };
         fits = λ more fit.
             let y =
-                fits_after x.symbols more 11 0 0 f.last m j j f.ends (omega arith) u.some (omega arith) f.reach
-                u.told.part (fits_part x.symbols more i f.last j j f.first (omega arith) fit) in
+            fits_after x.symbols more 11 0 0 f.last m j j f.ends (omega arith) u.some (omega arith) f.reach
+            u.told.part (fits_part x.symbols more i f.last j j f.first (omega arith) fit) in
             let form = f.fits more (left_fits more i f.last j (omega arith) fit) in
             subst (λ (n : ℕ). IsProp x.symbols n g.occ (raw.next i on low high p) i j) (sym y.1)
             (g.occ_next (subst (λ (n : ℕ). IsNextForm x.symbols n on low high i m) y.1 form) (u.fits y.0 y.2));

@@ -1,21 +1,21 @@
 -- What is told of the tokens of a repetition.
-use Rattle.std.proofs.Common.{◌≡◌, ℕ, zero, suc, ◌+◌, ◌-◌, ◌<◌, ◌≤◌, ◌⊎◌, inl, inr, Bool, true, false, cond, Option, Some}
-use Rattle.std.proofs.Common.{None, List, refl, sym, ap, subst, ◌∙◌, arith}
-use Rattle.std.proofs.lemmas.Bool.{and_left, and_right, both_ways}
-use Rattle.std.specs.Prelude.{◌&&◌, IsTrue}
+use Rattle.std.proofs.Common.{◌≡◌, ℕ, suc, ◌+◌, ◌-◌, ◌<◌, ◌≤◌, Bool, true, false, Option}
+use Rattle.std.proofs.Common.{refl, ap, subst, ◌∙◌, arith}
+use Rattle.std.proofs.lemmas.Bool.{and_right}
+use Rattle.std.specs.Prelude.{IsTrue}
 use Rattle.psl_grammar.specs.declared.symbols.Symbol.{Symbol}
 use Rattle.psl_grammar.specs.declared.symbols.Symbol.TheVariants as symbol
-use Rattle.psl_grammar.specs.Symbols.{symbol_at, At, is_pick, is_high}
+use Rattle.psl_grammar.specs.Symbols.{At, is_pick}
 use Rattle.psl_grammar.specs.SereGrammar.{IsCounts, IsTimes, IsPick, single, range}
 use Rattle.psl_grammar.specs.SereGrammar as s
 use Rattle.psl_parser.specs.Marks.{looseness, loose, is_colon, ends_operand, is_next, is_number, is_open_bracket}
 use Rattle.psl_parser.specs.Marks.{is_close_bracket, is_close_parenthesis, is_exclamation}
 use Rattle.psl_parser.specs.OpenPhrases.{opened, closed, is_behind, ends_form, is_head, is_count, is_range}
-use Rattle.unit_depth.proofs.Marks.{is_still, still_of, high_still}
+use Rattle.unit_depth.proofs.Marks.{is_still, high_still}
 use Rattle.unit_depth.proofs.Parts.{Part, IsTame, part_none, within_brackets}
 use Rattle.unit_depth.proofs.Phrases.{spanned_none}
 use Rattle.unit_depth.proofs.Keeping.{kept_none}
-use Rattle.unit_depth.proofs.Tokens.{Setting, sy, behind_at, still_behind, form_off, form_square, head_off, there}
+use Rattle.unit_depth.proofs.Tokens.{Setting, sy, still_behind, form_off, form_square, head_off, there}
 use Rattle.unit_depth.proofs.Tokens.{count_off_0, count_off_1, range_off_0, range_off_2, range_off_3}
 use Rattle.unit_depth.proofs.Told.{Told, told_join, told_still, told_inside, told_square, square_of, is_square}
 use Rattle.unit_depth.proofs.Told.{loose_least_at}

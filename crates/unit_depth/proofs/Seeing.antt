@@ -1,11 +1,11 @@
 -- What the grammar sees of tokens by the names that are known, and by all items before.
-use Rattle.std.proofs.Common.{◌≡◌, ℕ, zero, suc, ◌+◌, ◌-◌, ◌<◌, ◌≤◌, ◌⊎◌, inl, inr, Bool, true, false, cond, Option, Some}
-use Rattle.std.proofs.Common.{None, List, [], ◌∷◌, ◌++◌, length, take, refl, sym, ap, subst, ◌∙◌, arith, nat_eq}
+use Rattle.std.proofs.Common.{◌≡◌, ℕ, zero, suc, ◌+◌, ◌<◌, ◌≤◌, inl, inr, Bool, true, false, cond}
+use Rattle.std.proofs.Common.{List, [], ◌∷◌, length, take, refl, sym, ap, subst, ◌∙◌, arith, nat_eq}
 use Rattle.std.proofs.lemmas.Bool.{cases_lt}
 use Rattle.std.proofs.lemmas.List.{length-map, length_push, get_or_append_left, get_or_at, get_or-map, get_or_past}
 use Rattle.std.proofs.lemmas.List.Sums.{fold_push}
 use Rattle.std.proofs.Math.Seq.{take-suc}
-use Rattle.std.specs.Prelude.{◌&&◌, slice_index_or}
+use Rattle.std.specs.Prelude.{slice_index_or}
 use Rattle.std.specs.Cmp.Lexicographic.{pointwise}
 use Rattle.psl_lexer.specs.declared.kinds.Kind.{Kind}
 use Rattle.psl_lexer.specs.declared.kinds.Kind.TheVariants as kind
@@ -98,11 +98,11 @@ module _ (text : List ℕ) (tokens : List Token) where
   seen_there zero n lt = absurd (omega arith)
   seen_there (suc k) n lt =
       elim (cases_lt n k) [
-        inl h ↦
-        get_or_append_left (seen_to text tokens k) (seen_at text tokens k ∷ []) symbol.End n
+        | inl h ↦
+            get_or_append_left (seen_to text tokens k) (seen_at text tokens k ∷ []) symbol.End n
             (subst (λ (m : ℕ). n < m) (sym (seen_long k)) h) ∙ seen_there k n h
         | inr h ↦
-        let same : k ≡ n = omega arith in
+            let same : k ≡ n = omega arith in
             get_or_at (seen_to text tokens k) (seen_at text tokens k) [] symbol.End n (seen_long k ∙ same)
             ∙ ap (λ (m : ℕ). seen_at text tokens m) same
       ]
@@ -125,8 +125,8 @@ module _ (text : List ℕ) (tokens : List Token) where
       → blank (symbol_at (symbols_in text known tokens) n) ≡ blank (symbol_at (seen text tokens) n)
   blank_local known all n =
       elim (cases_lt n (length tokens)) [
-        inl h ↦
-        ap blank (at_in known n h) ∙ blank_in known (slice_index_or tokens n no_token) all
+        | inl h ↦
+            ap blank (at_in known n h) ∙ blank_in known (slice_index_or tokens n no_token) all
             ∙ sym (blank_in (known_before text tokens n) (slice_index_or tokens n no_token) (naming_before n))
             ∙ sym (ap blank (seen_in n h))
         | inr h ↦ ap blank (past_in known n h) ∙ sym (ap blank (seen_past n h))

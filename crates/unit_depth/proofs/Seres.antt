@@ -1,25 +1,24 @@
 -- What is told of the tokens of a sequence.
-use Rattle.std.proofs.Common.{◌≡◌, ℕ, zero, suc, ◌+◌, ◌-◌, ◌<◌, ◌≤◌, ◌⊎◌, inl, inr, Bool, true, false, cond, Option, Some}
-use Rattle.std.proofs.Common.{None, List, refl, sym, ap, subst, ◌∙◌, arith}
-use Rattle.std.proofs.lemmas.Bool.{and_left, and_right, both_ways, cases_lt}
+use Rattle.std.proofs.Common.{◌≡◌, ℕ, zero, suc, ◌+◌, ◌<◌, ◌≤◌, inr, Bool, true, false, cond, Option}
+use Rattle.std.proofs.Common.{refl, sym, ap, subst, ◌∙◌, arith}
 use Rattle.std.specs.Prelude.{◌&&◌, IsTrue}
 use Rattle.psl_grammar.specs.declared.symbols.Symbol.{Symbol}
 use Rattle.psl_grammar.specs.declared.symbols.Symbol.TheVariants as symbol
 use Rattle.psl_grammar.specs.RawExpr.{RawExpr}
-use Rattle.psl_grammar.specs.RawSere.{RawSere, bool, named, lone, repeat, join}
-use Rattle.psl_grammar.specs.Symbols.{symbol_at, At, joins_sequences, after_level, level_at, sere_level, is_pick}
-use Rattle.psl_grammar.specs.ExprGrammar.{IsExpr, IsBool, Ends}
+use Rattle.psl_grammar.specs.RawSere.{RawSere, bool, named, join}
+use Rattle.psl_grammar.specs.Symbols.{At, joins_sequences, after_level, sere_level, is_pick}
+use Rattle.psl_grammar.specs.ExprGrammar.{IsBool, Ends}
 use Rattle.psl_grammar.specs.SereGrammar.{IsTimes, IsPick, IsTimed, IsSere, IsSeq}
 use Rattle.psl_grammar.specs.SereGrammar as s
-use Rattle.psl_parser.specs.Marks.{closes_bracket, looseness, loose, is_colon, ends_operand, is_exclamation, is_event}
+use Rattle.psl_parser.specs.Marks.{looseness, loose, is_colon, ends_operand, is_exclamation, is_event}
 use Rattle.psl_parser.specs.Marks.{is_next, is_close_parenthesis, is_close_bracket}
-use Rattle.psl_parser.specs.OpenPhrases.{is_behind, reach_of, reach_by}
-use Rattle.unit_depth.proofs.Marks.{is_still, Operator, sere_operator, sere_deep}
-use Rattle.unit_depth.proofs.Parts.{Part, part_join, part_loosen, part_token, IsTame, looseness_small}
-use Rattle.unit_depth.proofs.Phrases.{Spanned, Over, Fits, spanned_join, spanned_token, over_less, fits_part, fits_after}
+use Rattle.psl_parser.specs.OpenPhrases.{is_behind, reach_by}
+use Rattle.unit_depth.proofs.Marks.{is_still, sere_operator, sere_deep}
+use Rattle.unit_depth.proofs.Parts.{part_token, looseness_small}
+use Rattle.unit_depth.proofs.Phrases.{Over, Fits, spanned_token, over_less, fits_part, fits_after}
 use Rattle.unit_depth.proofs.Tokens.{Setting, sy, Fresh, fresh, behind_any, behind_at, still_behind, form_off, head_off}
 use Rattle.unit_depth.proofs.Tokens.{brace_reach, reach_unformed, form_quiet, braced_at}
-use Rattle.unit_depth.proofs.Keeping.{Kept, kept_join, kept_deep}
+use Rattle.unit_depth.proofs.Keeping.{kept_deep}
 use Rattle.unit_depth.proofs.Told as t
 use Rattle.unit_depth.proofs.Told.{Told, told_join, told_more, told_still, told_curly, not_behind, tame_by}
 use Rattle.unit_depth.proofs.Exprs.{ExprTold, expr_told, behind_next, fresh_operator}
@@ -188,8 +187,8 @@ module _ (x : Setting) where
             p.told p.behind shut;
         fits = λ more f.
             let y =
-                fits_after x.symbols more 15 0 0 i (i + 1) j (j + 1) (omega arith) (omega arith) p.some (omega arith)
-                (brace_reach x i start.inside at) p.told.part f in
+            fits_after x.symbols more 15 0 0 i (i + 1) j (j + 1) (omega arith) (omega arith) p.some (omega arith)
+            (brace_reach x i start.inside at) p.told.part f in
             subst (λ (m : ℕ). IsSere x.symbols m 0 r i (j + 1)) (sym y.1) (s.braces at (p.fits y.0 y.2) shut);
       }
 

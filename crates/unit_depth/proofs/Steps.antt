@@ -1,5 +1,5 @@
 -- One more item of a unit: what the grammar sees of its tokens is what it sees by all items before.
-use Rattle.std.proofs.Common.{◌≡◌, ℕ, zero, suc, ◌+◌, ◌-◌, ◌<◌, ◌≤◌, ◌⊎◌, inl, inr, Bool, true, false, cond, Option, Some}
+use Rattle.std.proofs.Common.{◌≡◌, ℕ, zero, suc, ◌+◌, ◌<◌, ◌≤◌, ◌⊎◌, inl, inr, Bool, true, false, cond, Option, Some}
 use Rattle.std.proofs.Common.{None, List, [], ◌∷◌, length, refl, sym, ap, subst, ◌∙◌, arith, nat_eq}
 use Rattle.std.proofs.lemmas.Bool.{cases_lt, and_from, both_ways, eq-eqb}
 use Rattle.std.specs.Prelude.{◌&&◌, IsTrue}
@@ -20,7 +20,7 @@ use Rattle.psl_parser.specs.Seen.{is_semicolon, declared_as, way_to, item_at, en
 use Rattle.unit_depth.specs.Spelled as spell
 use Rattle.unit_depth.specs.Spelled.{SpellItem}
 use Rattle.unit_depth.proofs.Counting.{by_test, count_same, none_from, none_at}
-use Rattle.unit_depth.proofs.Phrases.{inner, Spanned, Fits, spanned_join, spanned_token}
+use Rattle.unit_depth.proofs.Phrases.{inner, Spanned, spanned_join, spanned_token}
 use Rattle.unit_depth.proofs.Tokens.{Setting, reach_at, form_off, head_off}
 use Rattle.unit_depth.proofs.Keeping.{way, ends_here}
 use Rattle.unit_depth.proofs.Told.{loose_at}
@@ -94,11 +94,11 @@ module _ (text : List ℕ) (tokens : List Token) where
       let same : m ≡ zero = omega arith in subst (λ (k : ℕ). known_before text tokens k ≡ known) same here
   known_on known m last on here (suc n) low high =
       elim (cases_lt n m) [
-        inl h ↦
-        let same : m ≡ suc n = omega arith in
+        | inl h ↦
+            let same : m ≡ suc n = omega arith in
             subst (λ (k : ℕ). known_before text tokens k ≡ known) same here
         | inr h ↦
-        ap (λ (b : Bool). cond b (with_declared text tokens (item_at text tokens n)
+            ap (λ (b : Bool). cond b (with_declared text tokens (item_at text tokens n)
             (declared_as (symbol_at plain (item_at text tokens n))) (known_before text tokens n))
             (known_before text tokens n)) (on n h high)
             ∙ known_on known m last on here n h (omega arith)
@@ -198,7 +198,7 @@ module _ (text : List ℕ) (tokens : List Token) (brace : ℕ) (start : At (outs
   token_there : (known : Known) (n : ℕ) → At (symbols_in text known tokens) n symbol.Semicolon → n < length tokens
   token_there known n at =
       elim (cases_lt n (length tokens)) [
-        inl h ↦ h
+        | inl h ↦ h
         | inr h ↦ let e = past_in text tokens known n h in let f = sym at ∙ e in absurd (cc)
       ]
 
@@ -254,10 +254,10 @@ module _ (text : List ℕ) (tokens : List Token) (brace : ℕ) (start : At (outs
     loose_is : (n : ℕ) → m ≤ n → n ≤ told.last → looseness there n ≡ looseness (seen text tokens) n
     loose_is n low high =
         elim (cases_lt n told.last) [
-          inl h ↦
-          same_loose there (seen text tokens) n (exact n low high) (exact (n + 1) (omega arith) (omega arith))
+          | inl h ↦
+              same_loose there (seen text tokens) n (exact n low high) (exact (n + 1) (omega arith) (omega arith))
           | inr h ↦
-          let at_end : told.last ≡ n = omega arith in
+              let at_end : told.last ≡ n = omega arith in
               subst (λ (k : ℕ). looseness there k ≡ looseness (seen text tokens) k) at_end
               (loose_at there told.last symbol.Semicolon told.shut refl
               ∙ sym (loose_at (seen text tokens) told.last symbol.Semicolon shut_seen refl))
@@ -302,9 +302,9 @@ module _ (text : List ℕ) (tokens : List Token) (brace : ℕ) (start : At (outs
     own_at : (n : ℕ) → m ≤ n → n < e → (way there n).1 + m ≡ n
     own_at n low high =
         elim (cases_lt n told.last) [
-          inl h ↦ let x = told.kept.own enough n low h in let y = own_here in omega arith
+          | inl h ↦ let x = told.kept.own enough n low h in let y = own_here in omega arith
           | inr h ↦
-          let ends = told.ends in
+              let ends = told.ends in
               let at_end : told.last ≡ n = omega arith in
               let x = told.kept.behind enough in
               let y = own_here in
@@ -315,9 +315,9 @@ module _ (text : List ℕ) (tokens : List Token) (brace : ℕ) (start : At (outs
     open_at : (n : ℕ) → m ≤ n → n < e → 0 < (way there n).0
     open_at n low high =
         elim (cases_lt n told.last) [
-          inl h ↦ told.kept.nested enough n low h
+          | inl h ↦ told.kept.nested enough n low h
           | inr h ↦
-          let ends = told.ends in
+              let ends = told.ends in
               let at_end : told.last ≡ n = omega arith in
               let x = told.kept.braces enough in
               subst (λ (k : ℕ). 0 < (way there k).0) at_end (let y = enough in omega arith)
@@ -336,7 +336,7 @@ module _ (text : List ℕ) (tokens : List Token) (brace : ℕ) (start : At (outs
     first_is =
         let x : (way there told.last).1 + m ≡ told.last = own_at told.last told.first (let y = told.ends in omega arith) in
         let same_way = ap (λ (w : ℕ × ℕ). w.1) (sym (way_to_is text tokens told.last (let y = last_there in omega arith))
-            ∙ sym (way_plain told.last)) in
+        ∙ sym (way_plain told.last)) in
         omega arith
 
     abbrev declared_from : ℕ → Known → Known
@@ -384,7 +384,7 @@ module _ (text : List ℕ) (tokens : List Token) (brace : ℕ) (start : At (outs
       own = λ n low high. ap (λ (w : ℕ × ℕ). w.1 + m) (way_seen n) ∙ own_at n low high;
       nested = λ n low high. subst (λ (w : ℕ × ℕ). 0 < w.0) (sym (way_seen n)) (open_at n low high);
       long = elim told.long [
-            inl h ↦ inl (sym wire_is ∙ h.0, h.1)
-            | inr h ↦ inr (sym wire_is ∙ h.0, h.1, h.2)
-          ];
+        | inl h ↦ inl (sym wire_is ∙ h.0, h.1)
+        | inr h ↦ inr (sym wire_is ∙ h.0, h.1, h.2)
+      ];
     }

@@ -1,5 +1,5 @@
 -- Whether a token stands behind an operand, whether it ends a form of `next`, and which phrase it opens.
-use Rattle.std.proofs.Common.{◌≡◌, ℕ, zero, suc, ◌+◌, ◌-◌, ◌<◌, ◌≤◌, ◌⊎◌, inl, inr, Bool, true, false, cond, Option, Some}
+use Rattle.std.proofs.Common.{◌≡◌, ℕ, zero, suc, ◌+◌, ◌-◌, ◌<◌, ◌≤◌, ◌⊎◌, inl, inr, Bool, true, false, Some}
 use Rattle.std.proofs.Common.{None, List, refl, sym, ap, subst, ◌∙◌, arith}
 use Rattle.std.proofs.lemmas.Bool.{cases_lt, cases_order, and_left, and_right, and_from, ne_eqb, lt-ltb, le-ltb}
 use Rattle.std.specs.Prelude.{not, ◌&&◌, ◌||◌, nat_lt}
@@ -13,7 +13,7 @@ use Rattle.psl_parser.specs.Marks.{is_event}
 use Rattle.psl_parser.specs.OpenPhrases.{opened, closed, is_bare, closes_round, opens_event, closes_event, is_head}
 use Rattle.psl_parser.specs.OpenPhrases.{ends_form, is_count, is_range, is_behind, behind_by, reach_by, reach_of}
 use Rattle.unit_depth.proofs.Counting.{by_test, one, one_small, count_zero, count_some, none_from, none_at, none_not}
-use Rattle.unit_depth.proofs.Marks.{Quiet, Still, still_of, is_still}
+use Rattle.unit_depth.proofs.Marks.{Quiet, still_of, is_still}
 use Rattle.unit_depth.proofs.Parts.{Part, opened_none, closed_none, opened_more, closed_more, opened_split}
 use Rattle.unit_depth.proofs.Parts.{closed_split, bare_yes, bare_is}
 use Rattle.unit_depth.proofs.Phrases.{open_there}
@@ -62,10 +62,10 @@ module _ (x : Setting) where
       → (is_head x.symbols (n - 3) && is_count x.symbols (n - 2)) ≡ false
   count_tail n not_so =
       elim (cases_lt n 2) [
-        inl h ↦
-        and_left (is_head x.symbols (n - 3)) (is_count x.symbols (n - 2)) (head_before n 3 (omega arith))
+        | inl h ↦
+            and_left (is_head x.symbols (n - 3)) (is_count x.symbols (n - 2)) (head_before n 3 (omega arith))
         | inr h ↦
-        let e : n - 2 + 2 ≡ n = omega arith in
+            let e : n - 2 + 2 ≡ n = omega arith in
             and_right (is_head x.symbols (n - 3)) (is_count x.symbols (n - 2))
             (and_right (is_open_bracket (sy (n - 2)) && is_number (sy (n - 2 + 1))) (is_close_bracket (sy (n - 2 + 2)))
             (ap (λ (m : ℕ). is_close_bracket (sy m)) e ∙ not_so))
@@ -75,10 +75,10 @@ module _ (x : Setting) where
       → (is_head x.symbols (n - 5) && is_range x.symbols (n - 4)) ≡ false
   range_tail n not_so =
       elim (cases_lt n 4) [
-        inl h ↦
-        and_left (is_head x.symbols (n - 5)) (is_range x.symbols (n - 4)) (head_before n 5 (omega arith))
+        | inl h ↦
+            and_left (is_head x.symbols (n - 5)) (is_range x.symbols (n - 4)) (head_before n 5 (omega arith))
         | inr h ↦
-        let e : n - 4 + 4 ≡ n = omega arith in
+            let e : n - 4 + 4 ≡ n = omega arith in
             and_right (is_head x.symbols (n - 5)) (is_range x.symbols (n - 4))
             (and_right
             (is_open_bracket (sy (n - 4)) && is_number (sy (n - 4 + 1)) && is_colon (sy (n - 4 + 2))
@@ -266,9 +266,9 @@ module _ (x : Setting) where
       let z = closed_more x.symbols o n lt in
       let few = one_small (closes_bracket (sy n)) in
       elim (cases_lt (closed x.symbols o n) (opened x.symbols o n)) [
-        inl h ↦ omega arith
+        | inl h ↦ omega arith
         | inr h ↦
-        let bare = bare_yes x.symbols o n (omega arith) in
+            let bare = bare_yes x.symbols o n (omega arith) in
             let off : closes_bracket (sy n) ≡ false = sym (ap (λ (t : Bool). t && closes_bracket (sy n)) bare) ∙ not_so in
             let none : one (closes_bracket (sy n)) ≡ one false = ap one off in
             omega arith
@@ -279,10 +279,10 @@ module _ (x : Setting) where
   low_while o zero lt each = absurd (omega arith)
   low_while o (suc n) lt each =
       elim (cases_lt o n) [
-        inl h ↦
-        low_more o n h (each n h (omega arith)) (low_while o n h (λ k low high. each k low (omega arith)))
+        | inl h ↦
+            low_more o n h (each n h (omega arith)) (low_while o n h (λ k low high. each k low (omega arith)))
         | inr h ↦
-        let same : o ≡ n = omega arith in
+            let same : o ≡ n = omega arith in
             let y = closed_none x.symbols o in
             subst (λ (m : ℕ). closed x.symbols o (suc m) ≤ opened x.symbols o (suc m)) same (omega arith)
       ]
@@ -331,7 +331,7 @@ module _ (x : Setting) where
           by_test (none_in (closes_round x.symbols o) (suc o) j)
           (λ is_so. uneven o (λ same.
           let low = low_while o i lt
-              (λ k from to. none_at (closes_round x.symbols o) (suc o) j k is_so from (let e = le in omega arith)) in
+          (λ k from to. none_at (closes_round x.symbols o) (suc o) j k is_so from (let e = le in omega arith)) in
           let y = opened_split x.symbols o i j lt le in
           let z = closed_split x.symbols o i j lt le in
           let u : one (opens_bracket (sy i)) ≡ one true = ap one (ap opens_bracket opener) in

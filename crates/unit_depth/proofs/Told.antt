@@ -1,5 +1,5 @@
 -- What is told of a span of tokens: its braces, its brackets and the phrases that it opens.
-use Rattle.std.proofs.Common.{◌≡◌, ℕ, zero, suc, ◌+◌, ◌-◌, ◌<◌, ◌≤◌, ◌⊎◌, inl, inr, Bool, true, false, cond, Option, Some}
+use Rattle.std.proofs.Common.{◌≡◌, ℕ, suc, ◌+◌, ◌<◌, ◌≤◌, inl, Bool, true, false, cond, Some}
 use Rattle.std.proofs.Common.{None, List, refl, sym, ap, subst, ◌∙◌, arith}
 use Rattle.std.proofs.lemmas.Bool.{both_ways}
 use Rattle.std.specs.Prelude.{◌&&◌}
@@ -10,9 +10,9 @@ use Rattle.psl_parser.specs.Marks.{opens_bracket, closes_bracket, looseness, loo
 use Rattle.psl_parser.specs.Marks.{is_next, is_close_parenthesis, is_close_bracket}
 use Rattle.psl_parser.specs.OpenPhrases.{is_behind, reach_of, reach_by, behind_by, ends_form}
 use Rattle.unit_depth.proofs.Counting.{one}
-use Rattle.unit_depth.proofs.Marks.{Quiet, Level, level_of, Still, still_of, is_still, Word, Operator, loose_least}
+use Rattle.unit_depth.proofs.Marks.{Quiet, Level, level_of, still_of, is_still, Word, Operator, loose_least}
 use Rattle.unit_depth.proofs.Parts.{Part, part_join, part_loosen, part_token, part_brackets, IsTame, looseness_small}
-use Rattle.unit_depth.proofs.Phrases.{Spanned, Over, Fits, spanned_join, spanned_more, spanned_token, spanned_phrase}
+use Rattle.unit_depth.proofs.Phrases.{Spanned, Over, spanned_join, spanned_more, spanned_token, spanned_phrase}
 use Rattle.unit_depth.proofs.Phrases.{phrase_ends}
 use Rattle.unit_depth.proofs.Tokens.{Setting, sy, braced_at, reach_unformed, reach_at, reach_any, still_reach}
 use Rattle.unit_depth.proofs.Tokens.{brace_reach, form_quiet, form_off, head_off}

@@ -1,33 +1,28 @@
 -- From the items of a unit to those that are spelled, and back.
-use Rattle.std.proofs.Common.{◌≡◌, ℕ, zero, suc, ◌+◌, ◌-◌, ◌<◌, ◌≤◌, ◌⊎◌, ◌↔◌, inl, inr, Bool, true, false, cond, Option}
-use Rattle.std.proofs.Common.{Some, None, List, [], ◌∷◌, ◌++◌, length, take, refl, sym, ap, subst, ◌∙◌, arith, nat_eq}
+use Rattle.std.proofs.Common.{◌≡◌, ℕ, suc, ◌+◌, ◌-◌, ◌<◌, ◌≤◌, inl, inr, false, cond}
+use Rattle.std.proofs.Common.{None, List, [], ◌∷◌, ◌++◌, length, take, refl, sym, ap, subst, ◌∙◌, arith, nat_eq}
 use Rattle.std.proofs.lemmas.Bool.{cases_lt, and_left, both_ways}
-use Rattle.std.specs.Prelude.{not, ◌&&◌, IsTrue}
 use Rattle.psl_lexer.specs.declared.kinds.Token.{Token}
 use Rattle.psl_grammar.specs.declared.symbols.Symbol.{Symbol}
 use Rattle.psl_grammar.specs.declared.symbols.Symbol.TheVariants as symbol
-use Rattle.psl_grammar.specs.RawUnit.{RawItem, RawUnit}
-use Rattle.psl_grammar.specs.Symbols.{symbol_at, At, is_name}
+use Rattle.psl_grammar.specs.RawUnit.{RawItem}
+use Rattle.psl_grammar.specs.Symbols.{symbol_at, At}
 use Rattle.psl_grammar.specs.ItemGrammar as item
 use Rattle.psl_grammar.specs.ItemGrammar.{AnyName, IsItem, IsShort, item_limit}
 use Rattle.psl_grammar.specs.Units as units
 use Rattle.psl_grammar.specs.Units.{Known, symbols_in, outside, known_after, AreItems, IsUnit}
-use Rattle.psl_parser.specs.Marks.{is_next, is_close_parenthesis, is_close_bracket, is_open_brace, is_event}
-use Rattle.psl_parser.specs.Marks.{opens_bracket, closes_bracket, ends_operand}
-use Rattle.psl_parser.specs.OpenPhrases.{reach_of, reach_by, is_behind, ends_form, stands_in, open_phrases}
-use Rattle.psl_parser.specs.Depth.{begins_item, braces_behind, behind, behind_all, is_wire, IsOneTooMany, IsTooDeep}
+use Rattle.psl_parser.specs.Marks.{is_next, is_close_parenthesis, is_close_bracket}
+use Rattle.psl_parser.specs.OpenPhrases.{reach_of, stands_in, open_phrases}
+use Rattle.psl_parser.specs.Depth.{begins_item, braces_behind, behind, behind_all, is_wire, IsOneTooMany}
 use Rattle.psl_parser.specs.Depth.{NoneTooDeep}
-use Rattle.psl_parser.specs.Seen.{is_semicolon, ends_item, way_to, known_before, seen}
+use Rattle.psl_parser.specs.Seen.{is_semicolon, way_to, seen}
 use Rattle.unit_depth.specs.Spelled as spell
 use Rattle.unit_depth.specs.Spelled.{SpellItem, SpellItems, SpellUnit, Spell}
-use Rattle.unit_depth.proofs.Counting.{count_split, none_from}
-use Rattle.unit_depth.proofs.Marks.{is_still, name_still, is_level, level_of}
-use Rattle.unit_depth.proofs.Phrases.{inner, Spanned, spanned_none, spanned_join, spanned_token, spanned_more}
-use Rattle.unit_depth.proofs.Tokens.{Setting, still_reach, still_behind, reach_any, reach_at, form_off, head_off}
-use Rattle.unit_depth.proofs.Tokens.{form_round, no_event}
+use Rattle.unit_depth.proofs.Counting.{count_split}
+use Rattle.unit_depth.proofs.Phrases.{inner, Spanned, spanned_none, spanned_join, spanned_token}
+use Rattle.unit_depth.proofs.Tokens.{reach_at, form_off, head_off}
 use Rattle.unit_depth.proofs.Keeping.{way}
-use Rattle.unit_depth.proofs.Told.{Told, told_inside, spanned_round}
-use Rattle.unit_depth.proofs.Blanks.{blank, blanked, by, way_same}
+use Rattle.unit_depth.proofs.Blanks.{way_same}
 use Rattle.unit_depth.proofs.Seeing.{way_is, seen_length}
 use Rattle.unit_depth.proofs.Steps.{moved, plain_seen, Boundary, known_on, seen_setting, StepTold, step_told}
 
@@ -77,7 +72,7 @@ module _ (text : List ℕ) (tokens : List Token) (brace : ℕ) (start : At (outs
       let not_so : is_wire (symbol_at S m) ≡ false =
       sym (ap (λ (k : ℕ). is_wire (symbol_at S k)) same) ∙ many.1 in
       elim s.long [
-        inl h ↦ both_ways (is_wire (symbol_at S m)) not_so h.0
+        | inl h ↦ both_ways (is_wire (symbol_at S m)) not_so h.0
         | inr h ↦ let le : e ≤ m + 2048 = h.1 short in omega arith
       ]
 
@@ -85,9 +80,9 @@ module _ (text : List ℕ) (tokens : List Token) (brace : ℕ) (start : At (outs
       → StepTold text tokens brace start braced room known it m e → NoneTooDeep S (length tokens) → IsShort it m e
   none_short room known it m e s none =
       elim s.long [
-        inl h ↦ h.1
+        | inl h ↦ h.1
         | inr h ↦
-        h.2 (not_above e (m + 2048) (λ over.
+            h.2 (not_above e (m + 2048) (λ over.
             let le = s.within in
             let same : m + 2048 - 2048 ≡ m = omega arith in
             let own = s.own (m + 2048) (omega arith) over in
@@ -96,8 +91,13 @@ module _ (text : List ℕ) (tokens : List Token) (brace : ℕ) (start : At (outs
             let full = ap (λ (w : ℕ × ℕ). w.1) way_of in
             let some = ap (λ (w : ℕ × ℕ). w.0) way_of in
             let long = seen_length text tokens in
-            none (m + 2048) (omega arith) (omega arith, inr ((omega arith, omega arith),
-            ap (λ (k : ℕ). is_wire (symbol_at S k)) same ∙ h.0))))
+            none (m + 2048) (omega arith) (
+              omega arith,
+              inr (
+                (omega arith, omega arith),
+                ap (λ (k : ℕ). is_wire (symbol_at S k)) same ∙ h.0,
+              ),
+            )))
       ]
 
   -- ---- from a unit
@@ -116,7 +116,7 @@ module _ (text : List ℕ) (tokens : List Token) (brace : ℕ) (start : At (outs
       let le = r.le in
       let q = to_spell (symbols_in text known tokens) p in
       let s =
-          step_told text tokens brace start braced 64 known it m j r.boundary q (omega arith) (omega arith) in
+      step_told text tokens brace start braced 64 known it m j r.boundary q (omega arith) (omega arith) in
       let some = s.some in
       record {
         le = omega arith;
@@ -124,9 +124,9 @@ module _ (text : List ℕ) (tokens : List Token) (brace : ℕ) (start : At (outs
         spelled = spell.more r.spelled q;
         spanned = spanned_join S 64 i m j le (omega arith) r.spanned (s.spanned (omega arith));
         short = λ n low high. elim (cases_lt n m) [
-              inl h ↦ r.short n low h
-              | inr h ↦ short_none 64 known it m j s short n h high
-            ];
+          | inl h ↦ r.short n low h
+          | inr h ↦ short_none 64 known it m j s short n h high
+        ];
       }
 
   pub made : {known : Known} {items : List RawItem} {i j : ℕ} → AreItems text tokens known items i j → brace < i
@@ -163,7 +163,7 @@ module _ (text : List ℕ) (tokens : List Token) (brace : ℕ) (start : At (outs
   read_more room known items it i m j none r lt p =
       let le = r.le in
       let s =
-          step_told text tokens brace start braced room known it m j r.boundary p (omega arith) (omega arith) in
+      step_told text tokens brace start braced room known it m j r.boundary p (omega arith) (omega arith) in
       let some = s.some in
       let fits = s.within in
       record {
@@ -219,33 +219,33 @@ module _ (text : List ℕ) (tokens : List Token) (brace : ℕ) (start : At (outs
       let shut : At S j symbol.CloseBrace =
       moved (outside text tokens) S (plain_seen text tokens) j symbol.CloseBrace refl (λ e. cc) close in
       let whole =
-          spanned_join S 64 0 i (suc j) (omega arith) (omega arith) h.spanned
-          (spanned_join S 64 i j (suc j) le (omega arith) r.spanned
-          (spanned_token S 64 j (close_reach j shut))) in
+      spanned_join S 64 0 i (suc j) (omega arith) (omega arith) h.spanned
+      (spanned_join S 64 i j (suc j) le (omega arith) r.spanned
+      (spanned_token S 64 j (close_reach j shut))) in
       let few = whole.within n (omega arith) (omega arith) in
       elim deep.1 [
-        inl over ↦ omega arith
+        | inl over ↦ omega arith
         | inr many ↦
-        elim (cases_lt n i) [
-          inl before ↦
-          let e = h.same in
-              let flat = h.flat n (omega arith) in
-              let seen_way = ap (λ (w : ℕ × ℕ). w.0) (way_same (outside text tokens) S (plain_seen text tokens) n) in
-              let full_of = ap (λ (w : ℕ × ℕ). w.0) (full_way n (omega arith)) in
-              let some : 0 < (behind_all (take n S)).0 = many.0.0 in
-              omega arith
-          | inr behind ↦
-          elim (cases_lt n j) [
-            inl inside ↦ r.short n behind inside many
-            | inr last ↦
-            let b = r.boundary in
-                let own = b.own in
-                let same : n ≡ j = omega arith in
-                let seen_way = ap (λ (w : ℕ × ℕ). w.1) (way_same (outside text tokens) S (plain_seen text tokens) j) in
-                let full_of = ap (λ (w : ℕ × ℕ). w.1) (full_way j (omega arith)) in
-                let full : (behind_all (take j S)).1 ≡ 2048 =
-                subst (λ (k : ℕ). (behind_all (take k S)).1 ≡ 2048) same many.0.1 in
-                omega arith
-          ]
-        ]
+            elim (cases_lt n i) [
+              | inl before ↦
+                  let e = h.same in
+                  let flat = h.flat n (omega arith) in
+                  let seen_way = ap (λ (w : ℕ × ℕ). w.0) (way_same (outside text tokens) S (plain_seen text tokens) n) in
+                  let full_of = ap (λ (w : ℕ × ℕ). w.0) (full_way n (omega arith)) in
+                  let some : 0 < (behind_all (take n S)).0 = many.0.0 in
+                  omega arith
+              | inr behind ↦
+                  elim (cases_lt n j) [
+                    | inl inside ↦ r.short n behind inside many
+                    | inr last ↦
+                        let b = r.boundary in
+                        let own = b.own in
+                        let same : n ≡ j = omega arith in
+                        let seen_way = ap (λ (w : ℕ × ℕ). w.1) (way_same (outside text tokens) S (plain_seen text tokens) j) in
+                        let full_of = ap (λ (w : ℕ × ℕ). w.1) (full_way j (omega arith)) in
+                        let full : (behind_all (take j S)).1 ≡ 2048 =
+                        subst (λ (k : ℕ). (behind_all (take k S)).1 ≡ 2048) same many.0.1 in
+                        omega arith
+                  ]
+            ]
       ]

@@ -1,8 +1,7 @@
 -- The operand of a `!`: what the tokens alone tell of it may end before its repetitions, which open no phrase.
-use Rattle.std.proofs.Common.{◌≡◌, ℕ, zero, suc, ◌+◌, ◌-◌, ◌<◌, ◌≤◌, ◌⊎◌, inl, inr, Bool, true, false, cond, Option, Some}
-use Rattle.std.proofs.Common.{None, List, refl, sym, ap, subst, ◌∙◌, arith}
+use Rattle.std.proofs.Common.{◌≡◌, ℕ, suc, ◌+◌, ◌-◌, ◌<◌, ◌≤◌, ◌⊎◌, inl, inr, true, false, Some}
+use Rattle.std.proofs.Common.{List, refl, sym, ap, subst, ◌∙◌, arith}
 use Rattle.std.proofs.lemmas.Bool.{both_ways, cases_lt, le-ltb, lt-ltb}
-use Rattle.std.specs.Prelude.{nat_lt}
 use Rattle.psl_grammar.specs.declared.symbols.Symbol.{Symbol}
 use Rattle.psl_grammar.specs.declared.symbols.Symbol.TheVariants as symbol
 use Rattle.psl_grammar.specs.RawSere.{RawSere}
@@ -11,15 +10,15 @@ use Rattle.psl_grammar.specs.SereGrammar.{IsSere}
 use Rattle.psl_grammar.specs.SereGrammar as s
 use Rattle.psl_parser.specs.Marks.{opens_bracket, closes_bracket, looseness, is_exclamation}
 use Rattle.psl_parser.specs.OpenPhrases.{opened, closed, is_bare, is_behind, is_beyond, ends, reach_of, stands_in}
-use Rattle.unit_depth.proofs.Counting.{one, count_first, count_zero}
+use Rattle.unit_depth.proofs.Counting.{one, count_first}
 use Rattle.unit_depth.proofs.Parts.{Part, opened_none, closed_none, opened_split, closed_split, bare_yes, bare_is}
 use Rattle.unit_depth.proofs.Parts.{within_brackets, looseness_small}
-use Rattle.unit_depth.proofs.Phrases.{inner, Spanned, Stays, ends_by, ends_not, open_there, stands_there, stands_not}
+use Rattle.unit_depth.proofs.Phrases.{inner, Stays, ends_by, ends_not, open_there, stands_there, stands_not}
 use Rattle.unit_depth.proofs.Phrases.{inner_past, all_ended}
-use Rattle.unit_depth.proofs.Tokens.{Setting, sy, Fresh}
+use Rattle.unit_depth.proofs.Tokens.{Setting, Fresh}
 use Rattle.unit_depth.proofs.Told.{Told, loose_at}
 use Rattle.unit_depth.proofs.Repeats.{TimesTold, times_told, times_far}
-use Rattle.unit_depth.proofs.Seres.{SereTold, sere_told, fresh_brace}
+use Rattle.unit_depth.proofs.Seres.{sere_told, fresh_brace}
 
 module _ (symbols : List Symbol) where
   -- no bare token up to a place ends the operand of a prefix operator
@@ -46,9 +45,9 @@ module _ (symbols : List Symbol) where
       → ((o n : ℕ) → o < i → opened symbols o i ≡ closed symbols o i → i < n → n < j
       → closed symbols o n < opened symbols o n) → IsWeak i j
   weak_round i j start round = λ o p lt bare low high. inl (λ n from to here behind. elim (cases_lt i n) [
-    inl h ↦ let z = round o n lt bare h (omega arith) in absurd (omega arith)
+    | inl h ↦ let z = round o n lt bare h (omega arith) in absurd (omega arith)
     | inr h ↦
-    let same : n ≡ i = omega arith in
+        let same : n ≡ i = omega arith in
         absurd (both_ways (is_behind symbols i) start
         (subst (λ (m : ℕ). is_behind symbols m ≡ true) same behind))
   ])
@@ -87,37 +86,37 @@ module _ (symbols : List Symbol) where
   pub weak_prefix : (i j : ℕ) → is_behind symbols i ≡ false → opens_bracket (symbol_at symbols i) ≡ false
       → closes_bracket (symbol_at symbols i) ≡ false → reach_of symbols i ≡ Some 0 → IsWeak (suc i) j → IsWeak i j
   weak_prefix i j start opens closes reach weak = λ o p lt bare low high. elim (cases_lt i p) [
-    inl h ↦
-    elim (weak o p (omega arith) (next_bare o i lt opens closes bare) h high) [
-      inl quiet ↦
-      inl (λ n from to here behind. elim (cases_lt i n) [
-            inl k ↦ quiet n k to here behind
-            | inr k ↦
-            let same : n ≡ i = omega arith in
-                absurd (both_ways (is_behind symbols i) start
-                (subst (λ (m : ℕ). is_behind symbols m ≡ true) same behind))
-          ])
-      | inr past ↦
-      let from = past.low in
-          let to = past.high in
-          let there = same_bare o i past.place lt (omega arith) opens closes bare past.bare in
-          let gone = stands_not symbols 0 i past.place p reach (omega arith) to
+    | inl h ↦
+        elim (weak o p (omega arith) (next_bare o i lt opens closes bare) h high) [
+          | inl quiet ↦
+              inl (λ n from to here behind. elim (cases_lt i n) [
+                | inl k ↦ quiet n k to here behind
+                | inr k ↦
+                    let same : n ≡ i = omega arith in
+                    absurd (both_ways (is_behind symbols i) start
+                    (subst (λ (m : ℕ). is_behind symbols m ≡ true) same behind))
+              ])
+          | inr past ↦
+              let from = past.low in
+              let to = past.high in
+              let there = same_bare o i past.place lt (omega arith) opens closes bare past.bare in
+              let gone = stands_not symbols 0 i past.place p reach (omega arith) to
               (ends_there i past.place there past.behind past.far) in
-          let first = count_first (λ k. stands_in symbols k p) i p h in
-          let none = past.none in
-          let here : one (stands_in symbols i p) ≡ one false = ap one gone in
-          inr (record {
-            place = past.place;
-            low = omega arith;
-            high = to;
-            bare = past.bare;
-            behind = past.behind;
-            far = past.far;
-            none = omega arith;
-          })
-    ]
+              let first = count_first (λ k. stands_in symbols k p) i p h in
+              let none = past.none in
+              let here : one (stands_in symbols i p) ≡ one false = ap one gone in
+              inr (record {
+                place = past.place;
+                low = omega arith;
+                high = to;
+                bare = past.bare;
+                behind = past.behind;
+                far = past.far;
+                none = omega arith;
+              })
+        ]
     | inr h ↦
-    inl (λ n from to here behind.
+        inl (λ n from to here behind.
         let same : n ≡ i = omega arith in
         absurd (both_ways (is_behind symbols i) start
         (subst (λ (m : ℕ). is_behind symbols m ≡ true) same behind)))
@@ -129,8 +128,8 @@ module _ (symbols : List Symbol) where
       → Stays symbols i j × (stands_in symbols i (suc i) ≡ true)
   weak_stays t a b i j reach p start weak some = (
     λ n low high. elim (weak i n (omega arith) (opened_none symbols i ∙ sym (closed_none symbols i)) low high) [
-      inl quiet ↦
-      inl (stands_there symbols 0 i n reach (λ m from to. not_ended m from (omega arith)
+      | inl quiet ↦
+          inl (stands_there symbols 0 i n reach (λ m from to. not_ended m from (omega arith)
           (λ bare behind. quiet m from to bare behind)))
       | inr past ↦ inr past.none
     ],
@@ -153,9 +152,9 @@ module _ (x : Setting) where
   weak_again : (room i m j : ℕ) → IsWeak x.symbols i m → Told x.symbols 1 room 11 i m → is_behind x.symbols m ≡ true
       → 11 ≤ looseness x.symbols m → TimesTold x m j → i ≤ m → IsWeak x.symbols i j
   weak_again room i m j weak p behind far q le = λ o n lt bare low high. elim (cases_lt n m) [
-    inl h ↦ weak o n lt bare low h
+    | inl h ↦ weak o n lt bare low h
     | inr h ↦
-    let past = inner_past x.symbols room i m n le h p.spanned in
+        let past = inner_past x.symbols room i m n le h p.spanned in
         let own = q.told 0 15 (λ b c. looseness_small x.symbols m) (λ small. absurd (omega arith)) in
         let none = own.spanned.within n h high in
         inr (record {
@@ -191,29 +190,29 @@ module _ (x : Setting) where
   pub weak_strong : (room i j : ℕ) → IsWeak x.symbols i j → Told x.symbols 1 room 11 i j → i < j
       → At x.symbols j symbol.Exclamation → IsWeak x.symbols i (j + 1)
   weak_strong room i j weak p some at = λ o n lt bare low high. elim (cases_lt n j) [
-    inl h ↦ weak o n lt bare low h
+    | inl h ↦ weak o n lt bare low h
     | inr h ↦
-    elim (weak o (j - 1) lt bare (omega arith) (omega arith)) [
-      inl quiet ↦
-      inl (λ k from to here behind. elim (cases_lt k j) [
-            inl f ↦ quiet k from (omega arith) here behind
-            | inr f ↦
-            let same : j ≡ k = omega arith in
-                let e = loose_at x.symbols j symbol.Exclamation at refl in
-                subst (λ (m : ℕ). looseness x.symbols m ≤ 0) same (omega arith)
-          ])
-      | inr past ↦
-      let to = past.high in
-          let same : j ≡ n = omega arith in
-          inr (record {
-            place = past.place;
-            low = past.low;
-            high = omega arith;
-            bare = past.bare;
-            behind = past.behind;
-            far = past.far;
-            none = subst (λ (m : ℕ). inner x.symbols i m ≡ 0) same
-                (all_ended x.symbols room i j p.spanned j (omega arith));
-          })
-    ]
+        elim (weak o (j - 1) lt bare (omega arith) (omega arith)) [
+          | inl quiet ↦
+              inl (λ k from to here behind. elim (cases_lt k j) [
+                | inl f ↦ quiet k from (omega arith) here behind
+                | inr f ↦
+                    let same : j ≡ k = omega arith in
+                    let e = loose_at x.symbols j symbol.Exclamation at refl in
+                    subst (λ (m : ℕ). looseness x.symbols m ≤ 0) same (omega arith)
+              ])
+          | inr past ↦
+              let to = past.high in
+              let same : j ≡ n = omega arith in
+              inr (record {
+                place = past.place;
+                low = past.low;
+                high = omega arith;
+                bare = past.bare;
+                behind = past.behind;
+                far = past.far;
+                none = subst (λ (m : ℕ). inner x.symbols i m ≡ 0) same
+                    (all_ended x.symbols room i j p.spanned j (omega arith));
+              })
+        ]
   ]
