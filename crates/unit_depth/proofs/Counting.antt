@@ -128,6 +128,7 @@ count_same s t a (suc k) same =
     elim (cases_lt k a) [
       | inl h ↦ count_none s a (suc k) (omega arith) ∙ sym (count_none t a (suc k) (omega arith))
       | inr h ↦
-          count_more s a k h ∙ ap (λ (n : ℕ). n + one (s k)) (count_same s t a k (λ n low high. same n low (omega arith)))
+          count_more s a k h
+          ∙ ap (λ (n : ℕ). n + one (s k)) (count_same s t a k (λ n low high. same n low (omega arith)))
           ∙ ap (λ (b : Bool). count_in t a k + one b) (same k h (omega arith)) ∙ sym (count_more t a k h)
     ]

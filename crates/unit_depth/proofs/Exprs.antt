@@ -213,7 +213,8 @@ module _ (x : Setting) where
   operator_tame m k o lt apart =
       let e = (expr_level (sy x m) k o lt).2 in
       let f : looseness x.symbols m ≡ loose (sy x m) =
-      ap (λ (b : Bool). cond b 11 (loose (sy x m))) (and_right (may_join (sy x m)) (begins_sequence (sy x (m + 1))) apart) in
+      ap (λ (b : Bool). cond b 11 (loose (sy x m)))
+      (and_right (may_join (sy x m)) (begins_sequence (sy x (m + 1))) apart) in
       omega arith
 
   pub fresh_operator : (m : ℕ) → x.brace ≤ m → Operator (sy x m) → Fresh x (m + 1)
@@ -359,7 +360,8 @@ module _ (x : Setting) where
       single_told room i (literal i) s.0 s.1 s.2 start (λ more. literally h)
   expr_told (parens {room = room} {e = e} {i = i} {j = j} a p c) start over far =
       paren_told room i j e start a c
-      (expr_told p (fresh_open i (i + 1) (omega arith) (let lt = start.inside in omega arith) a) (inl (ap closes_bracket c)) (λ le. inl (ap closes_bracket c)))
+      (expr_told p (fresh_open i (i + 1) (omega arith) (let lt = start.inside in omega arith) a)
+      (inl (ap closes_bracket c)) (λ le. inl (ap closes_bracket c)))
   expr_told (prefixed {room = room} {e = e} {i = i} {j = j} h p) start over far =
       prefix_told room i j e start h over
       (expr_told p (fresh_word i 0 (let lt = start.inside in omega arith) (prefix_here i start h)) over

@@ -12,7 +12,8 @@ use Rattle.psl_grammar.specs.PropGrammar.{IsCount, IsRange, IsParen, IsNextForm}
 use Rattle.psl_parser.specs.Marks.{opens_bracket, closes_bracket, is_colon, is_question, is_event, is_next}
 use Rattle.psl_parser.specs.Marks.{is_number, is_open_bracket, is_close_bracket, is_close_parenthesis, ends_operand}
 use Rattle.psl_parser.specs.Marks.{is_open_parenthesis}
-use Rattle.psl_parser.specs.OpenPhrases.{is_behind, reach_of, reach_by, behind_by, ends_form, is_head, is_count, is_range}
+use Rattle.psl_parser.specs.OpenPhrases.{is_behind, reach_of, reach_by, behind_by, ends_form, is_head, is_count}
+use Rattle.psl_parser.specs.OpenPhrases.{is_range}
 use Rattle.psl_parser.specs.OpenPhrases.{closes_event, opens_event}
 use Rattle.unit_depth.proofs.Marks.{Level, level_of, is_still}
 use Rattle.unit_depth.proofs.Parts.{Part, part_join, part_brackets, part_loosen, part_token, IsTame}
@@ -263,7 +264,8 @@ module _ (x : Setting) where
         kept = subst (λ (m : ℕ). Kept x.symbols 1 i m) next (kept_token x.symbols i level);
         part = subst (λ (m : ℕ). Part x.symbols 11 0 0 i m) next
             (part_token x.symbols 11 0 0 i (ap opens_bracket at) (ap closes_bracket at)
-            (not_behind x.symbols 11 i start.behind) (λ small. absurd (omega arith)) (λ small is_so. absurd (omega arith)));
+            (not_behind x.symbols 11 i start.behind) (λ small. absurd (omega arith))
+            (λ small is_so. absurd (omega arith)));
         spanned = spanned_none x.symbols room i;
         reach = formed_reach i symbol.Next at formed;
         behind = fresh x i (i + 1) (omega arith) (formed_behind i symbol.Next at formed) (ap is_event at)

@@ -20,7 +20,8 @@ use Rattle.unit_depth.proofs.Phrases.{Spanned, Fits, Over, spanned_none, spanned
 use Rattle.unit_depth.proofs.Tokens.{Setting, sy, Fresh, still_behind, form_off, head_off}
 use Rattle.unit_depth.proofs.Keeping.{Kept, kept_none, kept_join}
 use Rattle.unit_depth.proofs.Told as t
-use Rattle.unit_depth.proofs.Told.{Told, told_join, told_still, told_inside, told_square, told_round, square_of, tame_by}
+use Rattle.unit_depth.proofs.Told.{Told, told_join, told_still, told_inside, told_square, told_round, square_of}
+use Rattle.unit_depth.proofs.Told.{tame_by}
 use Rattle.unit_depth.proofs.Exprs.{still_fresh, behind_next, part_unformed, round_unformed}
 use Rattle.unit_depth.proofs.Seres.{seq_told}
 use Rattle.unit_depth.proofs.Props.{over_far}

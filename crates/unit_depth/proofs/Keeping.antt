@@ -137,7 +137,8 @@ module _ (symbols : List Symbol) where
             | inl k ↦ let x = p.own (deep enough) n k.0 k.1 in omega arith
             | inr e ↦
                 ap (λ (m : ℕ). (way symbols m).1 + i) (sym e)
-                ∙ (let x = p.behind (deep enough) in let y : (way symbols j).1 + i ≡ (way symbols i).1 + j = omega arith in y)
+                ∙ (let x = p.behind (deep enough) in
+                let y : (way symbols j).1 + i ≡ (way symbols i).1 + j = omega arith in y)
                 ∙ ap (λ (m : ℕ). (way symbols i).1 + m) e
           ]
     ];

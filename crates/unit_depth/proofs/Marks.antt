@@ -285,7 +285,8 @@ expr_operator symbol.OrOr k e lt =
     operator_by symbol.OrOr (quiet_of symbol.OrOr refl) refl refl refl (λ b. refl) (λ h. refl)
 expr_operator _ k e lt = absurd (omega arith)
 
-pub expr_level : (s : Symbol) (k : ℕ) → after_level s ≡ suc k → k < 9 → (Level s) × (is_colon s ≡ false) × (loose s ≡ suc k)
+pub expr_level : (s : Symbol) (k : ℕ) → after_level s ≡ suc k → k < 9
+    → (Level s) × (is_colon s ≡ false) × (loose s ≡ suc k)
 expr_level symbol.Sum k e lt = (level_of symbol.Sum refl, refl, e)
 expr_level symbol.Shift k e lt = (level_of symbol.Shift refl, refl, e)
 expr_level symbol.Order k e lt = (level_of symbol.Order refl, refl, e)
@@ -344,7 +345,8 @@ sere_deep _ k e lt = absurd (omega arith)
 
 -- ---- operands of one token
 
-pub name_still : (s : Symbol) → IsTrue (is_name s) → (is_still s ≡ true) × (ends_operand s ≡ true) × (is_colon s ≡ false)
+pub name_still : (s : Symbol) → IsTrue (is_name s)
+    → (is_still s ≡ true) × (ends_operand s ≡ true) × (is_colon s ≡ false)
 name_still symbol.Name e = (refl, refl, refl)
 name_still symbol.SequenceName e = (refl, refl, refl)
 name_still symbol.PropertyName e = (refl, refl, refl)

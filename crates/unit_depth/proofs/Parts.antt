@@ -12,9 +12,9 @@ use Rattle.psl_parser.specs.OpenPhrases.{opened, closed, is_bare, is_behind, que
 use Rattle.unit_depth.proofs.Counting.{by_test, one, count_more, count_none, count_split, count_first, count_zero}
 use Rattle.unit_depth.proofs.Marks.{loose_small, colon_small}
 
--- Behind `i`, where a phrase's opener stands in no bracket that is open, the tokens up to `j` close what they open; each
--- bare token behind an operand joins no more loosely than `t`, where for 10 colons don't count; and of the colons that
--- the `?` ask for there are `a` at the beginning and `b` at the end.
+-- Behind `i`, where a phrase's opener stands in no bracket that is open, the tokens up to `j` close what they open;
+-- each bare token behind an operand joins no more loosely than `t`, where for 10 colons don't count; and of the colons
+-- that the `?` ask for there are `a` at the beginning and `b` at the end.
 pub record Part (symbols : List Symbol) (t a b i j : ℕ) : Type 0 where
   pub le : i ≤ j
   pub low : (o n : ℕ) → o < i → opened symbols o i ≡ closed symbols o i → i ≤ n → n ≤ j

@@ -96,7 +96,9 @@ module _ (x : Setting) where
   prop_told (g.both_and {room = room} {l = l} {r = r} {i = i} {m = m} {j = j} p a q nb) start le over =
       let u = (prop_told p start le (over_at x 0 m 8 symbol.AndAnd a refl (omega arith) (omega arith))).0 in
       let lt = u.some in
-      let v = (prop_told q (after_still m symbol.AndAnd (behind_place x i m start lt) a refl refl refl) (omega arith) over).0 in (
+      let v =
+      (prop_told q (after_still m symbol.AndAnd (behind_place x i m start lt) a refl refl refl) (omega arith)
+      over).0 in (
         pair_told x room i m j g.both g.factor g.both l r (raw.binary m l r) (ap is_still a) (omega arith) (omega arith)
             (omega arith) (joins_small x m 11 symbol.AndAnd a (omega arith) (omega arith))
             (λ more y z. g.both_and y a z nb) u v,
@@ -114,7 +116,9 @@ module _ (x : Setting) where
   prop_told (g.either_or {room = room} {l = l} {r = r} {i = i} {m = m} {j = j} p a q nb) start le over =
       let u = (prop_told p start le (over_at x 0 m 9 symbol.OrOr a refl (omega arith) (omega arith))).0 in
       let lt = u.some in
-      let v = (prop_told q (after_still m symbol.OrOr (behind_place x i m start lt) a refl refl refl) (omega arith) over).0 in (
+      let v =
+      (prop_told q (after_still m symbol.OrOr (behind_place x i m start lt) a refl refl refl) (omega arith)
+      over).0 in (
         pair_told x room i m j g.either g.both g.either l r (raw.binary m l r) (ap is_still a) (omega arith)
             (omega arith) (omega arith) (joins_small x m 11 symbol.OrOr a (omega arith) (omega arith))
             (λ more y z. g.either_or y a z nb) u v,
@@ -167,7 +171,8 @@ module _ (x : Setting) where
             (λ e. absurd (omega (arith, e))) (λ more q. g.occ_eventually a q) u,
         λ same. absurd (cc),
       )
-  prop_told (g.occ_next {room = room} {on = on} {low_count = low} {high_count = high} {p = p} {i = i} {m = m} {j = j} f h)
+  prop_told
+      (g.occ_next {room = room} {on = on} {low_count = low} {high_count = high} {p = p} {i = i} {m = m} {j = j} f h)
       start le over =
       let form = form_told x f start (prop_begin x h) in
       let first = form.first in
@@ -182,7 +187,9 @@ module _ (x : Setting) where
   prop_told (g.untl_until {room = room} {l = l} {r = r} {i = i} {m = m} {j = j} p a q) start le over =
       let u = (prop_told p start le (over_far x 11 m 12 symbol.Until a refl refl (omega arith))).0 in
       let lt = u.some in
-      let v = (prop_told q (after_still m symbol.Until (behind_place x i m start lt) a refl refl refl) (omega arith) over).0 in (
+      let v =
+      (prop_told q (after_still m symbol.Until (behind_place x i m start lt) a refl refl refl) (omega arith)
+      over).0 in (
         pair_told x room i m j g.occ g.occ g.untl l r (raw.binary m l r) (ap is_still a) (omega arith) (omega arith)
             (omega arith) (joins_small x m 12 symbol.Until a (omega arith) (omega arith))
             (λ more y z. g.untl_until y a z) u v,

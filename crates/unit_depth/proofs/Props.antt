@@ -26,7 +26,8 @@ use Rattle.unit_depth.proofs.Tokens.{Setting, sy, Fresh, behind_at, reach_at, re
 use Rattle.unit_depth.proofs.Tokens.{form_quiet}
 use Rattle.unit_depth.proofs.Keeping.{kept_join}
 use Rattle.unit_depth.proofs.Told as t
-use Rattle.unit_depth.proofs.Told.{Told, told_join, told_more, told_still, told_token, told_round, told_word, word_reach}
+use Rattle.unit_depth.proofs.Told.{Told, told_join, told_more, told_still, told_token, told_round, told_word}
+use Rattle.unit_depth.proofs.Told.{word_reach}
 use Rattle.unit_depth.proofs.Told.{loose_at, loose_least_at, not_behind, tame_by}
 use Rattle.unit_depth.proofs.Exprs.{ExprTold, behind_next, prefix_here}
 use Rattle.unit_depth.proofs.Exprs.{round_unformed}

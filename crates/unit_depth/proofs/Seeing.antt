@@ -25,7 +25,8 @@ use Rattle.unit_depth.proofs.Blanks.{blank}
 abbrev pub IsNaming : Known → Type 0
 IsNaming known = (name : List ℕ) → blank (meaning_of known name) ≡ symbol.Name
 
-one_naming : (b : Bool) (s t : Symbol) → blank s ≡ symbol.Name → blank t ≡ symbol.Name → blank (cond b s t) ≡ symbol.Name
+one_naming : (b : Bool) (s t : Symbol) → blank s ≡ symbol.Name → blank t ≡ symbol.Name
+    → blank (cond b s t) ≡ symbol.Name
 one_naming true s t e f = e
 one_naming false s t e f = f
 

@@ -16,7 +16,8 @@ use Rattle.psl_parser.specs.Places.{none_in}
 use Rattle.psl_parser.specs.Marks.{looseness, loose, is_next, is_close_parenthesis, is_close_bracket}
 use Rattle.psl_parser.specs.OpenPhrases.{reach_of, ends, stands_by, stands_in}
 use Rattle.psl_parser.specs.Depth.{begins_item, braces_behind, is_wire}
-use Rattle.psl_parser.specs.Seen.{is_semicolon, declared_as, way_to, item_at, ends_item, with_declared, known_before, seen}
+use Rattle.psl_parser.specs.Seen.{is_semicolon, declared_as, way_to, item_at, ends_item, with_declared, known_before}
+use Rattle.psl_parser.specs.Seen.{seen}
 use Rattle.unit_depth.specs.Spelled as spell
 use Rattle.unit_depth.specs.Spelled.{SpellItem}
 use Rattle.unit_depth.proofs.Counting.{by_test, count_same, none_from, none_at}
@@ -156,25 +157,32 @@ module _ (text : List ℕ) (tokens : List Token) where
       unlearned i known (declared_as (symbol_at plain i))
       (declared_here known all i ∙ name_undeclared (symbol_at (local known) i) n)
 
+pub vunit_apart : symbol.Vunit ≡ symbol.Name → ⊥
+vunit_apart e = cc
+
+pub brace_apart : symbol.OpenBrace ≡ symbol.Name → ⊥
+brace_apart e = cc
+
 module _ (text : List ℕ) (tokens : List Token) (brace : ℕ) (start : At (outside text tokens) 0 symbol.Vunit)
     (braced : At (outside text tokens) brace symbol.OpenBrace) where
   abbrev pub local_setting : (known : Known) → IsNaming known → Setting
   local_setting known all = record {
     symbols = symbols_in text known tokens;
     start = moved (outside text tokens) (symbols_in text known tokens) (plain_local text tokens known all) 0
-        symbol.Vunit refl (λ e. cc) start;
+        symbol.Vunit refl vunit_apart start;
     brace = brace;
     braced = moved (outside text tokens) (symbols_in text known tokens) (plain_local text tokens known all) brace
-        symbol.OpenBrace refl (λ e. cc) braced;
+        symbol.OpenBrace refl brace_apart braced;
   }
 
   abbrev pub seen_setting : Setting
   seen_setting = record {
     symbols = seen text tokens;
-    start = moved (outside text tokens) (seen text tokens) (plain_seen text tokens) 0 symbol.Vunit refl (λ e. cc) start;
+    start = moved (outside text tokens) (seen text tokens) (plain_seen text tokens) 0 symbol.Vunit refl vunit_apart
+        start;
     brace = brace;
     braced = moved (outside text tokens) (seen text tokens) (plain_seen text tokens) brace symbol.OpenBrace refl
-        (λ e. cc) braced;
+        brace_apart braced;
   }
 
   abbrev pub Length : RawItem → (m e : ℕ) → Type 0
@@ -241,7 +249,8 @@ module _ (text : List ℕ) (tokens : List Token) (brace : ℕ) (start : At (outs
     before : (n : ℕ) → m ≤ n → n ≤ told.last → known_before text tokens n ≡ known
     before n low high =
         known_on text tokens known m told.last
-        (λ k from to. ends_is k (let x = last_there in omega arith) ∙ told.kept.on enough k from to) (sym b.before) n low
+        (λ k from to. ends_is k (let x = last_there in omega arith) ∙ told.kept.on enough k from to) (sym b.before) n
+        low
         high
 
     exact : (n : ℕ) → m ≤ n → n ≤ told.last → symbol_at there n ≡ symbol_at (seen text tokens) n
@@ -334,8 +343,10 @@ module _ (text : List ℕ) (tokens : List Token) (brace : ℕ) (start : At (outs
 
     first_is : item_at text tokens told.last ≡ m
     first_is =
-        let x : (way there told.last).1 + m ≡ told.last = own_at told.last told.first (let y = told.ends in omega arith) in
-        let same_way = ap (λ (w : ℕ × ℕ). w.1) (sym (way_to_is text tokens told.last (let y = last_there in omega arith))
+        let x : (way there told.last).1 + m ≡ told.last =
+        own_at told.last told.first (let y = told.ends in omega arith) in
+        let same_way = ap (λ (w : ℕ × ℕ). w.1)
+        (sym (way_to_is text tokens told.last (let y = last_there in omega arith))
         ∙ sym (way_plain told.last)) in
         omega arith
 
@@ -352,7 +363,8 @@ module _ (text : List ℕ) (tokens : List Token) (brace : ℕ) (start : At (outs
 
     plain_shut : At (outside text tokens) told.last symbol.Semicolon
     plain_shut =
-        moved there (outside text tokens) (λ n. sym (plain_local text tokens known all n)) told.last symbol.Semicolon refl
+        moved there (outside text tokens) (λ n. sym (plain_local text tokens known all n)) told.last symbol.Semicolon
+        refl
         (λ e. cc) told.shut
 
     plain_braces : (way (outside text tokens) told.last).0 ≡ 1

@@ -8,7 +8,8 @@ use Rattle.psl_grammar.specs.declared.symbols.Symbol.TheVariants as symbol
 use Rattle.psl_grammar.specs.Symbols.{symbol_at, At}
 use Rattle.psl_parser.specs.Places.{count_in, none_in}
 use Rattle.psl_parser.specs.Marks.{opens_bracket, closes_bracket, ends_operand, is_open_brace, is_open_parenthesis}
-use Rattle.psl_parser.specs.Marks.{is_close_parenthesis, is_open_bracket, is_close_bracket, is_number, is_colon, is_next}
+use Rattle.psl_parser.specs.Marks.{is_close_parenthesis, is_open_bracket, is_close_bracket, is_number, is_colon}
+use Rattle.psl_parser.specs.Marks.{is_next}
 use Rattle.psl_parser.specs.Marks.{is_event}
 use Rattle.psl_parser.specs.OpenPhrases.{opened, closed, is_bare, closes_round, opens_event, closes_event, is_head}
 use Rattle.psl_parser.specs.OpenPhrases.{ends_form, is_count, is_range, is_behind, behind_by, reach_by, reach_of}
@@ -269,7 +270,8 @@ module _ (x : Setting) where
         | inl h ↦ omega arith
         | inr h ↦
             let bare = bare_yes x.symbols o n (omega arith) in
-            let off : closes_bracket (sy n) ≡ false = sym (ap (λ (t : Bool). t && closes_bracket (sy n)) bare) ∙ not_so in
+            let off : closes_bracket (sy n) ≡ false =
+            sym (ap (λ (t : Bool). t && closes_bracket (sy n)) bare) ∙ not_so in
             let none : one (closes_bracket (sy n)) ≡ one false = ap one off in
             omega arith
       ]

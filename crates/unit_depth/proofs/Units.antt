@@ -58,6 +58,9 @@ module _ (text : List ℕ) (tokens : List Token) (brace : ℕ) (start : At (outs
   full_way : (n : ℕ) → n ≤ length tokens → way S n ≡ behind_all (take n S)
   full_way n le = let e = seen_length text tokens in way_is S n (omega arith)
 
+  seen_is : (n : ℕ) → way (outside text tokens) n ≡ way S n
+  seen_is n = way_same (outside text tokens) S (plain_seen text tokens) n
+
   -- ---- items that are too long
 
   short_none : (room : ℕ) (known : Known) (it : RawItem) (m e : ℕ)
@@ -230,7 +233,7 @@ module _ (text : List ℕ) (tokens : List Token) (brace : ℕ) (start : At (outs
               | inl before ↦
                   let e = h.same in
                   let flat = h.flat n (omega arith) in
-                  let seen_way = ap (λ (w : ℕ × ℕ). w.0) (way_same (outside text tokens) S (plain_seen text tokens) n) in
+                  let seen_way = ap (λ (w : ℕ × ℕ). w.0) (seen_is n) in
                   let full_of = ap (λ (w : ℕ × ℕ). w.0) (full_way n (omega arith)) in
                   let some : 0 < (behind_all (take n S)).0 = many.0.0 in
                   omega arith
@@ -241,7 +244,7 @@ module _ (text : List ℕ) (tokens : List Token) (brace : ℕ) (start : At (outs
                         let b = r.boundary in
                         let own = b.own in
                         let same : n ≡ j = omega arith in
-                        let seen_way = ap (λ (w : ℕ × ℕ). w.1) (way_same (outside text tokens) S (plain_seen text tokens) j) in
+                        let seen_way = ap (λ (w : ℕ × ℕ). w.1) (seen_is j) in
                         let full_of = ap (λ (w : ℕ × ℕ). w.1) (full_way j (omega arith)) in
                         let full : (behind_all (take j S)).1 ≡ 2048 =
                         subst (λ (k : ℕ). (behind_all (take k S)).1 ≡ 2048) same many.0.1 in
