@@ -90,7 +90,7 @@ fn is_unit_as_a_whole(alloc: Global, text: &[u8]) -> bool {
     }
     match tokens(alloc, text) {
         Err(_) => false,
-        Ok(found) => stops_at_each_end(alloc, text, &found) && fault_of(alloc, text) == None,
+        Ok(found) => stops_at_each_end(alloc, text, &found) && fault_of(alloc, text).is_none(),
     }
 }
 
