@@ -1,7 +1,7 @@
 use Rattle.std.proofs.Common.{rules, arith}
 use Rattle.std.specs.Prelude.{IsErr}
 use Rattle.mbac_top.proofs.Pieces.{failed}
-use Rattle.mbac_top.proofs.message.write_number.Goals as goal
+use Rattle.mbac_top.proofs.numbers.write_number.Goals as goal
 
 pub returns-in_err-write_all-2 : goal.returns-in_err-write_all-2
 returns-in_err-write_all-2 g c =

@@ -1,7 +1,7 @@
 use Rattle.std.proofs.Common.{rules, arith}
 use Rattle.std.specs.Prelude.{IsErr}
 use Rattle.mbac_top.proofs.Pieces.{failed}
-use Rattle.mbac_top.proofs.message.write_numbered.Goals as goal
+use Rattle.mbac_top.proofs.numbers.write_numbered.Goals as goal
 
 pub returns-in_err-write_numbers : goal.returns-in_err-write_numbers
 returns-in_err-write_numbers g c =

@@ -1,7 +1,7 @@
 use Rattle.std.proofs.Common.{◌≤◌, take}
 use Rattle.mbac_io.specs.Device.{Appends}
 use Rattle.mbac_top.specs.Messages.{numbers_of}
-use Rattle.mbac_top.proofs.message.write_numbers.Given as goal
+use Rattle.mbac_top.proofs.numbers.write_numbers.Given as goal
 
 abbrev pub invariant-loop-number : goal.invariant-loop-number
 invariant-loop-number g l = record {

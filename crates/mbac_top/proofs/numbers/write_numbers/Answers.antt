@@ -3,7 +3,7 @@ use Rattle.std.specs.Prelude.{IsErr}
 use Rattle.mbac_io.specs.Device.{AppendsPart}
 use Rattle.mbac_top.specs.Messages.{numbers_of}
 use Rattle.mbac_top.proofs.Pieces.{failed, numbers_of-more, numbers_of-split}
-use Rattle.mbac_top.proofs.message.write_numbers.Goals as goal
+use Rattle.mbac_top.proofs.numbers.write_numbers.Goals as goal
 
 pub returns-in_err-write_number : goal.returns-in_err-write_number
 returns-in_err-write_number g c =
