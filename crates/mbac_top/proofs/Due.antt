@@ -104,7 +104,8 @@ module _ (one : OneReason) (not_both : NotBoth) where
   once bytes Done _ stands absent = absurd absent
   once bytes (Refused r) (InputTooLong slot) (short, _) (at, long) = absurd (long_short bytes long short)
   once bytes (Refused r) Done (_, (refused, told)) (_, unit) = absurd (not_both bytes r refused unit)
-  once bytes (Refused r) (Refused q) (_, (due, _)) (_, (refused, told)) = reason bytes r q told (one bytes r q due refused)
+  once bytes (Refused r) (Refused q) (_, (due, _)) (_, (refused, told)) =
+      reason bytes r q told (one bytes r q due refused)
   once bytes (Refused r) _ stands absent = absurd absent
   once bytes _ _ absent _ = absurd absent
 

@@ -29,7 +29,7 @@ fn words_of(alloc: Global, texts: &[&str]) -> Result<Vec<String>, AllocError> {
     Ok(words)
 }
 
-fn inputs(alloc: Global, file: &[u8], failing: Failing) -> Result<MemoryInputs, AllocError> {
+fn inputs_of(alloc: Global, file: &[u8], failing: Failing) -> Result<MemoryInputs, AllocError> {
     let files = vec![in alloc; file.to_vec(alloc)?]?;
     let mut calls = Vec::new(alloc);
     if let Failing::Read(call) = failing {
@@ -39,7 +39,7 @@ fn inputs(alloc: Global, file: &[u8], failing: Failing) -> Result<MemoryInputs, 
 }
 
 // It takes 10 bytes in a call.
-fn output(alloc: Global, failing: Failing) -> Result<MemorySink, AllocError> {
+fn output_of(alloc: Global, failing: Failing) -> Result<MemorySink, AllocError> {
     let mut calls = Vec::new(alloc);
     if let Failing::Write(call) = failing {
         calls.push(call)?;
@@ -47,7 +47,7 @@ fn output(alloc: Global, failing: Failing) -> Result<MemorySink, AllocError> {
     MemorySink::new(alloc, 10_000, 10, calls)
 }
 
-fn notes(alloc: Global, failing: Failing) -> Result<MemorySink, AllocError> {
+fn notes_of(alloc: Global, failing: Failing) -> Result<MemorySink, AllocError> {
     let mut calls = Vec::new(alloc);
     if let Failing::Note(call) = failing {
         calls.push(call)?;
@@ -63,9 +63,9 @@ pub(crate) fn ran(
     failing: Failing,
 ) -> Result<Seen, AllocError> {
     let words = words_of(alloc, words)?;
-    let mut inputs = inputs(alloc, file, failing)?;
-    let mut out = output(alloc, failing)?;
-    let mut notes = notes(alloc, failing)?;
+    let mut inputs = inputs_of(alloc, file, failing)?;
+    let mut out = output_of(alloc, failing)?;
+    let mut notes = notes_of(alloc, failing)?;
     let outcome = run(alloc, &words, &mut inputs, &mut out, &mut notes);
     Ok(Seen {
         outcome,
@@ -75,7 +75,7 @@ pub(crate) fn ran(
 }
 
 /// How a run is to end: its status, its cause, the output and what is told.
-#[derive(Debug, Drop)]
+#[derive(Drop)]
 pub(crate) struct Ending {
     pub status: u8,
     pub cause: Cause,

@@ -121,7 +121,7 @@ fn a_directive_is_512_deep_at_most(rt: HostRuntime) -> Result<(), Fail> {
 // A sequence of two letters that is doubled 15 times.
 fn doubled(alloc: Global) -> Result<Vec<u8>, AllocError> {
     let mut text = Vec::from_slice(alloc, b"vunit u { sequence s0 = {a;a};")?;
-    for number in 1..16 {
+    for number in 1u32..16 {
         let before = number - 1;
         let item = format!(in alloc; " sequence s{number} = {{s{before};s{before}}};")?;
         text.extend_from_slice(item.as_bytes())?;
