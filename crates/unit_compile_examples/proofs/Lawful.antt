@@ -1,5 +1,6 @@
 -- Each module of a text is lawful, the last one too.
-use Rattle.std.proofs.Common.{◌≡◌, ◌⊎◌, ℕ, suc, List, [], ◌∷◌, ◌++◌, map, All, subst}
+use Rattle.std.proofs.Common.{◌≡◌, ℕ, suc, List, [], ◌∷◌, ◌++◌, map, All, subst, Some, None}
+use Rattle.std.specs.Prelude.{Option, IfSome, option_to_list}
 use Rattle.std.proofs.lemmas.List.Elements.{All-nil, All-cons, All-head, All-tail}
 use Rattle.psl_model.specs.Unit.{PslUnit, Directive}
 use Rattle.verilog_text.specs.Module.{Module, IsLawful}
@@ -25,3 +26,9 @@ pub last_lawful : (whole front : List code.Module) (m : code.Module) → whole �
     All IsLawful (map module_of whole) → IsLawful (module_of m)
 last_lawful whole front m e all =
     at_end front m (subst (λ (ms : List code.Module). All IsLawful (map module_of ms)) e all)
+
+pub popped_lawful : (whole front : List code.Module) (popped : Option code.Module) →
+    whole ≡ front ++ option_to_list popped → All IsLawful (map module_of whole) →
+    IfSome popped (λ m. IsLawful (module_of m))
+popped_lawful whole front None e all = tt
+popped_lawful whole front (Some m) e all = last_lawful whole front m e all
