@@ -97,7 +97,9 @@ fn write_fields<N: Sink>(notes: &mut N, refusal: &Refusal) -> Result<(), Failed>
             directive,
             sequence,
         } => write_directive(notes, *directive, u64::from(*sequence)),
-        Refusal::TooManyRegisters { directive, count } => write_directive(notes, *directive, *count),
+        Refusal::TooManyRegisters { directive, count } => write_directive(
+            notes, *directive, *count,
+        ),
         Refusal::TooManySteps { directive, count } => write_directive(notes, *directive, *count),
         Refusal::OutOfMemory | Refusal::Unbuilt => write_numbers(notes, &[]),
     }
@@ -121,8 +123,5 @@ fn write_sequence<N: Sink>(
     ensures { EndsWriting (sink_change N.taken N.faults notes.old notes.new)
         (numbers_of (directive ∷ sequence ∷ number ∷ [])) result }
 {
-    write_numbers(
-        notes,
-        &[u64::from(directive), u64::from(sequence), number],
-    )
+    write_numbers(notes, &[u64::from(directive), u64::from(sequence), number])
 }

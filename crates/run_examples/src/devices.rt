@@ -142,7 +142,10 @@ fn tells_a_part(alloc: Global, call: u64, note: &'static [u8]) -> bool {
 #[test]
 fn ends_the_same_where_notes_fail(rt: HostRuntime) {
     for (call, note) in &PARTS {
-        assert!(rt; tells_a_part(rt.alloc(), *call, *note), "a failure at call {call}");
+        assert!(rt;
+            tells_a_part(rt.alloc(), *call, *note),
+            "a failure at call {call}"
+        );
     }
 }
 
