@@ -36,6 +36,17 @@ wide() {
         print "}" }'
 }
 
+# As many properties as fit, one of them asserted.
+declared() {
+    awk -v size="$limit" 'BEGIN {
+        text = "vunit u {\n"; last = "assert p1;\n}\n"; room = size - length(last)
+        for (n = 1; used + length(text) <= room; n++) {
+            printf "%s", text; used += length(text)
+            text = "property p" n " = always (s" n % 1000 " && t -> (s" (n + 1) % 1000 " || !t));\n"
+        }
+        printf "%s", last }'
+}
+
 # As many comments as fit before one assertion.
 comments() {
     awk -v size="$limit" 'BEGIN {
@@ -58,7 +69,7 @@ measure() {
 }
 
 echo "$(nproc) processors, load $(cut -d' ' -f1-3 /proc/loadavg)"
-for unit in many large wide comments; do
+for unit in many large wide declared comments; do
     $unit > unit.psl
     measure $unit
 done
