@@ -158,6 +158,9 @@ no_steps (plain.and f g) h =
 no_steps (plain.or_bool e f) h = no_steps f h
 no_steps (plain.implies e f) h = no_steps f h
 no_steps (plain.always f) h = no_steps f h
+no_steps (plain.next s k f) h = no_steps f h
+no_steps (plain.next_all s low high f) h = no_steps f h.1
+no_steps (plain.until s f e) h = no_steps f h
 no_steps b h = absurd h
 
 pub same_steps : (name : ℕ → ℕ) (f : Formula) → IsBuilt f →

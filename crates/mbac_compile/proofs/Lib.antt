@@ -1,7 +1,6 @@
 mod Alike
 mod Bits
 mod Built
-mod Empty
 mod Guards
 mod Joined
 mod Names

@@ -11,7 +11,7 @@ use Rattle.mbac_compile.specs.Built.{IsBuilt}
 use Rattle.mbac_compile.specs.Units.{expression_parentheses_limit}
 use Rattle.mbac_compile.proofs.Built.{base_built, built_named, in_subset}
 use Rattle.mbac_compile.proofs.Guards.{has_guards}
-use Rattle.mbac_compile.proofs.Alike.{weakly_same, wholly_same}
+use Rattle.mbac_compile.proofs.Alike.{weakly_same, wholly_same, some_mapped}
 use Rattle.mbac_compile.proofs.laws.a_built_formula_reads_as_its_base_form.Goals as goal
 
 pub returns-clause-guards : goal.returns-clause-guards
@@ -42,6 +42,6 @@ returns-clause-reads c widths f built has =
       fits = λ values fit. c.chosen_values_fit.ensures places widths values fit;
       weakly = λ trace fit. weakly_same (chosen places widths) inner same (WeaklyViolates widths f trace)
           (map (chosen places) trace) (law.weakly places widths f trace uses);
-      whole = λ trace fit. wholly_same (chosen places widths) inner same inner_built (Violates widths f trace)
-          (map (chosen places) trace) (law.whole places widths f trace uses);
+      whole = λ trace some fit. wholly_same (chosen places widths) inner same (Violates widths f trace)
+          (map (chosen places) trace) (some_mapped (chosen places) trace some) (law.whole places widths f trace uses);
     }
