@@ -1,6 +1,7 @@
 mod Alike
 mod Bits
 mod Built
+mod Forms
 mod Guards
 mod Joined
 mod Names

@@ -9,4 +9,4 @@ mod laws;
 
 pub use checkers::{Checker, checker_of};
 pub use directives::{CheckError, checker_of_directive};
-pub use formulas::is_built;
+pub use formulas::has_built_form;
