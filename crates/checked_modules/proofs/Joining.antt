@@ -96,6 +96,6 @@ module _ (law : HasOneBit) (m : Netlist) (made : Module) (widths places : List �
         let comes = contains_so trace eots reset cycles is_trace.fits bits run last is_last in
         let judged = checks.ends (inputs_of (map (values_at places) trace) eots) k.run k.is_run last
         (is_last ∙ sym moved_length) (λ i inside. last_marked last i) in
-        let meaning = reads.whole trace is_trace.fits in
+        let meaning = reads.whole trace is_trace.not_empty is_trace.fits in
         ((λ c. meaning.1 (judged.0 (comes.0 c))), (λ w. comes.1 (judged.1 (meaning.0 w))));
   }

@@ -60,7 +60,8 @@ const ALTERNATIVES: [Row; 3] = [
     (["0100", "0010", "0111", "0001"], None),
 ];
 
-fn checked(alloc: Global, formula: &Subbase) -> Result<(Netlist, Check), AllocError>
+// The check of a formula, started and cleared by signals.
+pub(crate) fn checked(alloc: Global, formula: &Subbase) -> Result<(Netlist, Check), AllocError>
     requires built { IsBuilt formula.now }
     requires guards { HasGuards (1 ∷ 1 ∷ 1 ∷ 1 ∷ []) formula.now }
 {

@@ -88,3 +88,23 @@ pub(crate) fn first_on(
     }
     Ok(None)
 }
+
+/// Whether a net is on in just those cycles in which a text has a 1, where the signals have the values of these texts.
+pub(crate) fn is_stream(
+    alloc: Global,
+    net: &Netlist,
+    found: Net,
+    texts: &[&str; 4],
+    told: &str,
+) -> Result<bool, AllocError> {
+    let mut held = begun(alloc, net)?;
+    for now in 0..texts[0].len() {
+        let bits = signals(alloc, texts, now)?;
+        let nets = cycle(alloc, net, &held, &bits, false)?;
+        if is_on(&nets, found) != (told.as_bytes().get(now) == Some(&b'1')) {
+            return Ok(false);
+        }
+        held = next(alloc, net, &nets)?;
+    }
+    Ok(true)
+}

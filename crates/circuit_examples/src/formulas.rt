@@ -1,6 +1,6 @@
 //! Formulas over signals of one bit: a, b, the one that starts and the one that clears.
 
-ghost use Rattle.std.specs.Prelude.{◌<◌, [], ◌∷◌, IfOk};
+ghost use Rattle.std.specs.Prelude.{◌<◌, ◌≤◌, [], ◌∷◌, IfOk};
 ghost use Rattle.psl_model.specs.View.{expr_of};
 ghost use Rattle.circuit_core.specs.WellMade.{IsGuard};
 ghost use Rattle.property_circuits.specs.Conditions.{IsBuilt, HasGuards};
@@ -91,6 +91,67 @@ pub(crate) fn always_after_a(alloc: Global, body: Subbase) -> Result<Subbase, Al
 {
     let test = implies(alloc, A, body)?;
     always(alloc, test)
+}
+
+pub(crate) fn next(
+    alloc: Global,
+    strong: bool,
+    count: u32,
+    body: Subbase,
+) -> Result<Subbase, AllocError>
+    requires built { IsBuilt body }
+    requires guards { HasGuards (1 ∷ 1 ∷ 1 ∷ 1 ∷ []) body }
+    ensures built { IfOk result (λ f. IsBuilt f) }
+    ensures guards { IfOk result (λ f. HasGuards (1 ∷ 1 ∷ 1 ∷ 1 ∷ []) f) }
+{
+    Subbase::new(
+        alloc,
+        Base::Next {
+            strong,
+            count,
+            body,
+        },
+    )
+}
+
+pub(crate) fn next_all(
+    alloc: Global,
+    strong: bool,
+    low: u32,
+    high: u32,
+    body: Subbase,
+) -> Result<Subbase, AllocError>
+    requires ordered { low ≤ high }
+    requires built { IsBuilt body }
+    requires guards { HasGuards (1 ∷ 1 ∷ 1 ∷ 1 ∷ []) body }
+    ensures built { IfOk result (λ f. IsBuilt f) }
+    ensures guards { IfOk result (λ f. HasGuards (1 ∷ 1 ∷ 1 ∷ 1 ∷ []) f) }
+{
+    Subbase::new(
+        alloc,
+        Base::NextAll {
+            strong,
+            low,
+            high,
+            body,
+        },
+    )
+}
+
+pub(crate) fn until(
+    alloc: Global,
+    strong: bool,
+    body: Subbase,
+    stop: usize,
+) -> Result<Subbase, AllocError>
+    requires stop { stop < 4 }
+    requires built { IsBuilt body }
+    requires guards { HasGuards (1 ∷ 1 ∷ 1 ∷ 1 ∷ []) body }
+    ensures built { IfOk result (λ f. IsBuilt f) }
+    ensures guards { IfOk result (λ f. HasGuards (1 ∷ 1 ∷ 1 ∷ 1 ∷ []) f) }
+{
+    let stop = signal(stop);
+    Subbase::new(alloc, Base::Until { strong, body, stop })
 }
 
 // 2 to the power of `depth` formulas joined by `&&`: `always a`, and once `last`.

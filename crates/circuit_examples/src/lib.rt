@@ -10,3 +10,7 @@ mod circuits;
 mod cycles;
 #[cfg(test)]
 mod formulas;
+#[cfg(test)]
+mod gates;
+#[cfg(test)]
+mod later;

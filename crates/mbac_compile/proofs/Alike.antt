@@ -1,5 +1,5 @@
 -- What a built formula says, its base form over the signals that it uses says of these.
-use Rattle.std.proofs.Common.{ℕ, zero, suc, List, [], ◌∷◌, map, refl}
+use Rattle.std.proofs.Common.{◌≢◌, ℕ, zero, suc, List, [], ◌∷◌, map, refl}
 use Rattle.std.specs.Prelude.{◌↔◌}
 use Rattle.psl_model.specs.Formula.{Formula}
 use Rattle.psl_meaning.specs.Word.{Valuation, valuation, finite, with_tops, Reaches}
@@ -7,9 +7,6 @@ use Rattle.psl_meaning.specs.Violation.{WeaklyViolates, Violates}
 use Rattle.psl_rewrite.specs.BaseForm.{base_form_of}
 use Rattle.psl_rewrite.specs.Meaning.{named}
 use Rattle.psl_rewrite.specs.SameMeaning.{MeanTheSame, HasNoBottom}
-use Rattle.mbac_compile.specs.Built.{IsBuilt}
-use Rattle.mbac_compile.proofs.Built.{base_built}
-use Rattle.mbac_compile.proofs.Empty.{satisfied, base_satisfied}
 
 no_bottom_finite : (trace : List Valuation) → HasNoBottom (finite (map valuation trace))
 no_bottom_finite [] k = λ e. absurd (cc (e))
@@ -35,10 +32,13 @@ pub weakly_same : (widths : List ℕ) (f : Formula) → MeanTheSame (named (base
 weakly_same widths f same A trace is =
     swapped is (same widths (with_tops (map valuation trace)) (tops_begin trace) (no_bottom_tops trace))
 
-pub wholly_same : (widths : List ℕ) (f : Formula) → MeanTheSame (named (base_form_of f)) f → IsBuilt f →
-    (A : Type 0) → (trace : List Valuation) → A ↔ Violates widths f trace →
+pub wholly_same : (widths : List ℕ) (f : Formula) → MeanTheSame (named (base_form_of f)) f →
+    (A : Type 0) → (trace : List Valuation) → trace ≢ [] → A ↔ Violates widths f trace →
     A ↔ Violates widths (named (base_form_of f)) trace
-wholly_same widths f same built A [] is =
-    swapped is (λ h. satisfied widths f built, λ h. base_satisfied widths (base_form_of f) (base_built f built))
-wholly_same widths f same built A (v ∷ trace) is =
+wholly_same widths f same A [] some is = absurd (some refl)
+wholly_same widths f same A (v ∷ trace) some is =
     swapped is (same widths (finite (map valuation (v ∷ trace))) refl (no_bottom_finite (v ∷ trace)))
+
+pub some_mapped : (g : Valuation → Valuation) (trace : List Valuation) → trace ≢ [] → map g trace ≢ []
+some_mapped g [] some e = some refl
+some_mapped g (v ∷ trace) some e = absurd (cc (e))

@@ -10,7 +10,7 @@ use Rattle.verilog_text.specs.Interface.{port_widths}
 use Rattle.verilog_text.specs.Module.{Module, Register, IsPort}
 use Rattle.verilog_text.specs.State.{register_widths}
 use Rattle.verilog_text.specs.Stream.{HasRegistersOf}
-use Rattle.property_circuits.specs.Counts.{register_bits}
+use Rattle.strong_obligations.specs.Bits.{register_bits}
 
 abbrev firsts : List (ℕ × ℕ) → List ℕ
 firsts pairs = map (λ (p : ℕ × ℕ). p.0) pairs

@@ -1,7 +1,7 @@
 mod Alike
 mod Bits
 mod Built
-mod Empty
+mod Forms
 mod Guards
 mod Joined
 mod Names

@@ -21,9 +21,9 @@ pub refused_so : (f : Formula) (error : CircuitError) → IsBuilt f → IsRefusa
 refused_so f (TooManyPlaces sequence places) built h = h
 refused_so f (Contradiction sequence) built h = h
 refused_so f (SequenceTooLarge sequence) built h = h
-refused_so f (TooManyRegisters count) built h = h
+refused_so f (TooManyRegisters count) built h = (built, h.0, h.1)
 refused_so f (TooManySteps count) built h =
-    let none : 0 < 0 = subst (λ (n : ℕ). 0 < n) (no_steps (base_form_of f) (base_built f built))
+    let none : 0 < 0 = subst (λ (n : ℕ). 0 < n) (no_steps (base_form_of f) (base_built (base_form_of f) built.form))
     (none_below (steps_of (base_form_of f)) h.0.1) in
     absurd (omega (arith, none))
 refused_so f OutOfMemory built h = tt

@@ -1,3 +1,4 @@
 pub mod Built
 pub mod Units
 pub mod Refusals
+pub mod inner

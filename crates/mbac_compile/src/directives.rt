@@ -1,6 +1,6 @@
 //! The checker module of a directive.
 
-ghost use Rattle.std.specs.Prelude.{◌≡◌, ◌↔◌, ◌≤◌, IfOk, IfErr, OnOk, IsErrOf, sum};
+ghost use Rattle.std.specs.Prelude.{◌≡◌, ◌≤◌, IfOk, IfErr, OnOk, IsErrOf, sum};
 ghost use Rattle.psl_model.specs.UnitView.{unit_of, directive_of};
 ghost use Rattle.psl_model.specs.View.{formula_of};
 ghost use Rattle.psl_rewrite.specs.BaseForm.{base_form_of};
@@ -12,11 +12,12 @@ ghost use Rattle.property_circuits.specs.Refusals.{IsRefusal};
 ghost use Rattle.checker_meaning.specs.Headline.{IsCheckerOf};
 ghost use Rattle.mbac_compile.specs.Built.{IsBuilt};
 ghost use Rattle.mbac_compile.specs.Units.{IsWellNamed, IsWellWorded, IsWellFormed};
-ghost use Rattle.mbac_compile.specs.Refusals.{IsRefused};
-ghost use Rattle.mbac_compile.specs.declared.directives.CheckError.TheVariants.{Unbuilt, Circuit};
+ghost use Rattle.mbac_compile.specs.Refusals.{IsUnfit, IsRefused};
+ghost use Rattle.mbac_compile.specs.declared.directives.CheckError.{CheckError};
+ghost use Rattle.mbac_compile.specs.declared.directives.CheckError.TheVariants.{Subset, Circuit};
 
 use crate::checkers::{Checker, checker_of};
-use crate::formulas::{base_over, is_built};
+use crate::formulas::{base_over, has_built_form};
 use crate::interfaces::{module_name, ports_at, shown_report, widths_of};
 use crate::laws::{
     a_built_formula_has_a_built_base_form, a_built_formula_reads_as_its_base_form,
@@ -24,7 +25,8 @@ use crate::laws::{
 };
 use port_formulas::used_places;
 use property_circuits::CircuitError;
-use psl_model::{Directive, PslUnit};
+use psl_model::{Directive, Formula, PslUnit};
+use simple_subset::{Rule, check};
 use std::alloc::Global;
 
 /// The most steps that the tables of a unit's sequences may have.
@@ -33,10 +35,20 @@ const STEP_LIMIT: u64 = 1_000_000;
 /// Why a directive gets no checker.
 #[derive(Clone, Copy, Debug, PartialEq, Eq)]
 pub enum CheckError {
+    /// The formula is outside the simple subset: this rule is broken first.
+    Subset(Rule),
     /// Checkers aren't made of such formulas yet.
     Unbuilt,
     /// The base form of the formula gets no circuit.
     Circuit(CircuitError),
+}
+
+impl From<Rule> for CheckError {
+    ghost from_gives = { λ rule e. e ≡ Subset rule };
+
+    fn from(rule: Rule) -> CheckError {
+        CheckError::Subset(rule)
+    }
 }
 
 impl From<CircuitError> for CheckError {
@@ -44,6 +56,20 @@ impl From<CircuitError> for CheckError {
 
     fn from(error: CircuitError) -> CheckError {
         CheckError::Circuit(error)
+    }
+}
+
+/// Whether checkers are made of a formula of this form, and if not, why. It takes no memory, and recurs as deep as the
+/// formula is high.
+pub fn check_form(formula: &Formula) -> Result<(), CheckError>
+    ensures built { OnOk result (IsBuilt (formula_of formula.now)) }
+    ensures unfit { IfErr result (IsUnfit (formula_of formula.now)) }
+{
+    check(formula)?;
+    if has_built_form(formula) {
+        Ok(())
+    } else {
+        Err(CheckError::Unbuilt)
     }
 }
 
@@ -66,12 +92,11 @@ pub fn checker_of_directive(
         sum (register_widths (module_of x.checker)) ≤ budget_of (base_form_of (formula_of directive.now.formula))) }
     ensures steps { IfOk result (λ x. x.steps ≡ steps_of (base_form_of (formula_of directive.now.formula))) }
     ensures within { OnOk result (budget_of (base_form_of (formula_of directive.now.formula)) ≤ register_limit) }
-    ensures unbuilt { IsErrOf result Unbuilt ↔ (¬ IsBuilt (formula_of directive.now.formula)) }
+    ensures built { OnOk result (IsBuilt (formula_of directive.now.formula)) }
+    ensures unfit { (error : CheckError) → IsUnfit (formula_of directive.now.formula) error → IsErrOf result error }
     ensures refused { IfErr result (IsRefused (formula_of directive.now.formula)) }
 {
-    if !is_built(&directive.formula) {
-        return Err(CheckError::Unbuilt);
-    }
+    check_form(&directive.formula)?;
     let checker = built_checker(alloc, unit, number, directive)?;
     Ok(checker)
 }

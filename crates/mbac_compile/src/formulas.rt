@@ -6,28 +6,61 @@ ghost use Rattle.psl_rewrite.specs.View.{base_of};
 ghost use Rattle.psl_rewrite.specs.BaseForm.{base_form_of};
 ghost use Rattle.port_formulas.specs.Over.{over};
 ghost use Rattle.mbac_compile.specs.Built.{is_built};
+ghost use Rattle.mbac_compile.specs.inner.Forms.{fits_reach, is_sequence};
 
 use port_formulas::over_places;
-use psl_model::Formula;
+use psl_model::{Formula, Reach};
 use psl_rewrite::{Base, rewrite};
 use simple_subset::is_boolean;
 use std::alloc::{AllocError, Global};
 
-/// Whether checkers are made of the formula. It takes no memory, and recurs as deep as the formula is high.
-pub fn is_built(formula: &Formula) -> bool
-    ensures { result ≡ is_built (formula_of formula.now) }
+// Whether circuits are made of a `next` over such a range.
+fn fits_reach(reach: Reach, low: u32, high: u32) -> bool
+    ensures { result ≡ fits_reach reach low high }
+{
+    match reach {
+        Reach::One => true,
+        Reach::All => low <= high,
+        Reach::Some => false,
+    }
+}
+
+fn is_sequence(formula: &Formula) -> bool
+    ensures { result ≡ is_sequence (formula_of formula.now) }
+{
+    matches!(formula, Formula::Seq { .. })
+}
+
+/// Whether circuits are made of the base form of the formula. It takes no memory, and recurs as deep as the formula is
+/// high.
+#[tactic(auto, using(crate::proofs::Forms::or_left_built, crate::proofs::Forms::or_right_built, crate::proofs::Forms::next_built, crate::proofs::Forms::never_built, crate::proofs::Forms::eventually_built))]
+pub fn has_built_form(formula: &Formula) -> bool
+    ensures { result ≡ is_built (base_form_of (formula_of formula.now)) }
 {
     match formula {
-        Formula::Bool(_) => true,
-        Formula::And(left, right) => is_built(left.get()) && is_built(right.get()),
+        Formula::Bool(_) | Formula::Not(_) | Formula::Iff(_, _) | Formula::Before { .. } => true,
+        Formula::And(left, right) => has_built_form(left.get()) && has_built_form(right.get()),
         Formula::Or(left, right) => {
-            (is_boolean(left.get()) && is_built(right.get()))
-                || (is_boolean(right.get()) && is_built(left.get()))
+            if is_boolean(left.get()) {
+                has_built_form(right.get())
+            } else {
+                has_built_form(left.get())
+            }
         }
-        Formula::Implies(left, right) => is_boolean(left.get()) && is_built(right.get()),
-        Formula::Always(body) => is_built(body.get()),
-        Formula::Never(body) => is_boolean(body.get()),
-        _ => false,
+        Formula::Implies(_, body) | Formula::Always(body) => has_built_form(body.get()),
+        Formula::Until { left, .. } => has_built_form(left.get()),
+        Formula::Next {
+            reach,
+            low,
+            high,
+            body,
+            ..
+        } => fits_reach(*reach, *low, *high) && has_built_form(body.get()),
+        Formula::Never(body) | Formula::Eventually(body) => !is_sequence(body.get()),
+        Formula::Seq { .. }
+        | Formula::Suffix { .. }
+        | Formula::Event { .. }
+        | Formula::Abort(_, _) => false,
     }
 }
 

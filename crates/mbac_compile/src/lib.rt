@@ -8,5 +8,5 @@ mod interfaces;
 mod laws;
 
 pub use checkers::{Checker, checker_of};
-pub use directives::{CheckError, checker_of_directive};
-pub use formulas::is_built;
+pub use directives::{CheckError, check_form, checker_of_directive};
+pub use formulas::has_built_form;

@@ -1,13 +1,12 @@
 -- Netlists that grow by registers that are set.
-use Rattle.std.specs.Prelude.{ℕ, zero, suc, ◌≡◌, ◌↔◌, ◌<◌, ◌+◌, ◌++◌, List, [], ◌∷◌, Option, Some, None, IsSome}
-use Rattle.std.specs.Prelude.{IfSome, IsSomeAnd, length, map, fold, slice_get}
-use Rattle.std.proofs.Common.{refl, sym, ap, ◌∙◌, subst, arith, length-append}
-use Rattle.std.proofs.lemmas.Option.{slice_get_within, same_Some}
-use Rattle.circuit_core.specs.Netlist.{Register, Netlist, IsNet, IsNetOf}
+use Rattle.std.specs.Prelude.{ℕ, zero, suc, ◌≡◌, ◌↔◌, ◌<◌, [], Option, Some, None, IsSome}
+use Rattle.std.specs.Prelude.{IfSome, IsSomeAnd, length}
+use Rattle.std.proofs.Common.{refl, sym, ap, ◌∙◌, subst, arith}
+use Rattle.std.proofs.lemmas.Option.{slice_get_within}
+use Rattle.circuit_core.specs.Netlist.{Netlist, IsNet, IsNetOf}
 use Rattle.circuit_core.specs.Run.{On, InEachRun, InEachCycle}
-use Rattle.circuit_core.specs.Growth.{Extends, IsSet, Grows, HaveNexts, opened, closed}
+use Rattle.circuit_core.specs.Growth.{Extends, IsSet, Grows, HaveNexts}
 use Rattle.circuit_core.specs.WellMade.{IsWellMade, IsFinished}
-use Rattle.property_circuits.specs.Counts.{register_bits}
 
 -- with the same registers
 pub grows_same : (a b : Netlist) → Extends a b → b.registers ≡ a.registers → Grows a b 0
@@ -18,28 +17,6 @@ grows_same a b x same = record {
       let inside : r < length b.registers = slice_get_within b.registers r y at in
       absurd (omega (arith, ap (λ rs. length rs) same));
 }
-
--- with one that is made, and set when nets have been put
-pub grows_set : (a b c : Netlist) (r width initial next : ℕ) → Extends a c → r ≡ length a.registers →
-    b.registers ≡ a.registers ++ opened width initial ∷ [] →
-    slice_get b.registers r ≡ Some (opened width initial) → IsSet b r next c → Grows a c 1
-grows_set a b c r width initial next x number one there set = record {
-  kept = x;
-  count = omega (arith, size);
-  nexts = λ q y past at.
-      let inside : q < length c.registers = slice_get_within c.registers q y at in
-      let is : q ≡ r = omega (arith, size) in
-      let now : slice_get c.registers q ≡ Some (closed width initial next) =
-      ap (λ (k : ℕ). slice_get c.registers k) is ∙ set.sets width initial there in
-      let same : closed width initial next ≡ y = same_Some (closed width initial next) y (sym now ∙ at) in
-      subst (λ (z : Register). IsSome z.next) same refl_some;
-}
-  where
-    size : length c.registers ≡ length a.registers + 1
-    size = set.count ∙ ap (λ rs. length rs) one ∙ length-append a.registers (opened width initial ∷ [])
-
-    refl_some : IsSome (Some next)
-    refl_some = refl
 
 -- ---- the net of a register that holds 1 in the first cycle alone
 
@@ -56,17 +33,6 @@ first_circuit m1 m2 m3 r first never of begins x12 nevers set inputs run r3 (suc
     ((λ on. absurd (on off)), (λ e. absurd (omega arith)))
 
 -- ---- a netlist that is done
-
-bits_from : (rs : List Register) → ((r : ℕ) (x : Register) → slice_get rs r ≡ Some x → x.width ≡ 1) → (from : ℕ) →
-    fold ◌+◌ from (map (λ (x : Register). x.width) rs) ≡ from + length rs
-bits_from [] each from = omega arith
-bits_from (x ∷ rs) each from =
-    let one : x.width ≡ 1 = each 0 x refl in
-    let counted : length (x ∷ rs) ≡ suc (length rs) = refl in
-    bits_from rs (λ r y at. each (suc r) y at) (from + x.width) ∙ omega (arith, one, counted)
-
-pub bits_are : (m : Netlist) → IsWellMade m → register_bits m ≡ length m.registers
-bits_are m well = bits_from m.registers (λ r x at. (well.registers r x at).width) 0 ∙ omega arith
 
 some_and : (m : Netlist) (o : Option ℕ) → IsSome o → IfSome o (IsNet m) → IsSomeAnd o (IsNet m)
 some_and m None some net = absurd (cc (some))

@@ -4,7 +4,7 @@ use Rattle.std.specs.Prelude.{ℕ, zero, suc, ◌≡◌, ◌≢◌, ◌↔◌, �
 use Rattle.std.specs.Prelude.{slice_get}
 use Rattle.std.proofs.Common.{refl, sym, ap, ◌∙◌, subst, arith, inl, inr}
 use Rattle.std.proofs.lemmas.Bool.{cases_lt}
-use Rattle.std.proofs.Math.Seq.{drop-length}
+use Rattle.std.proofs.lemmas.List.{drop_all}
 use Rattle.psl_model.specs.Expr.{Expr}
 use Rattle.psl_model.specs.Sere.{Sere}
 use Rattle.psl_model.specs.Value.{own_value}
@@ -20,8 +20,8 @@ use Rattle.property_circuits.specs.Conditions.{IsBuilt}
 use Rattle.property_circuits.specs.Counts.{steps_of}
 use Rattle.property_circuits.specs.Starts.{letters, Weak, Full, IsCheck}
 use Rattle.property_circuits.proofs.Letters.{value_there, letters_begin, letters_later, letters_length}
-use Rattle.property_circuits.proofs.Streams.{Always, IsEither, AreJoined, IsNarrowed, IsOfSome, bool_answers}
-use Rattle.property_circuits.proofs.Streams.{and_answers, narrowed_answers, always_answers}
+use Rattle.property_circuits.proofs.Streams.{Judgement, Always, Never, IsEither, AreJoined, IsNarrowed, IsOfSome}
+use Rattle.property_circuits.proofs.Streams.{bool_answers, and_answers, narrowed_answers, always_answers}
 
 -- P of the value in a cycle
 abbrev pub Needs : (trace : List Valuation) → (Valuation → Type 0) → ℕ → Type 0
@@ -73,56 +73,93 @@ module _ (V : Base → List Valuation → Type 0) (stable : (f : Base) (ls : Lis
   along : (f : Base) (xs ys : List Valuation) → xs ≡ ys → V f xs → V f ys
   along f xs ys e h = subst (λ (ls : List Valuation). V f ls) e h
 
-  -- that f, from each of the places below a number on, isn't violated, is that `always f` isn't
+  -- A body is started at the places `Started` of a list, and a list may lack something by itself: that the whole isn't
+  -- violated is that the list doesn't lack it, and that the body isn't violated from any of these places on.
+  abbrev pub PlacesLaw : (Started : List Valuation → ℕ → Type 0) (Lacks : List Valuation → Type 0) →
+      (whole body : Base) → Type 0
+  PlacesLaw Started Lacks whole f = (ls : List Valuation) → ls ≢ [] →
+      (¬ V whole ls) ↔ (((k : ℕ) → k < length ls → Started ls k → ¬ V f (drop k ls)) × ¬ Lacks ls)
+
+  module _ (Started : List Valuation → ℕ → Type 0) (Lacks : List Valuation → Type 0) (Goes Waits : Judgement)
+      (whole f : Base) (law : PlacesLaw Started Lacks whole f)
+      (starts : (i k m : ℕ) → i ≤ k → k ≤ m → m < length trace → Goes i k ↔ Started (letters trace i m) (k - i))
+      (lacks : (i m : ℕ) → i ≤ m → m < length trace → Waits i m ↔ Lacks (letters trace i m)) where
+    law_at : (i m : ℕ) → i ≤ m → m < length trace → (¬ By whole i m)
+        ↔ (((k : ℕ) → k < length (letters trace i m) → Started (letters trace i m) k →
+        ¬ V f (drop k (letters trace i m))) × ¬ Lacks (letters trace i m))
+    law_at i m ordered within =
+        let counted = letters_length trace i m ordered within in
+        law (letters trace i m)
+        (λ none. let nothing = ap (λ (xs : List Valuation). length xs) none in absurd (omega (arith, counted, nothing)))
+
+    hit : (i m k : ℕ) → i ≤ k → k ≤ m → m < length trace → Goes i k → By f k m → By whole i m
+    hit i m k from to within goes bad =
+        let counted = letters_length trace i m (omega arith) within in
+        let here = along f (letters trace k m) (drop (k - i) (letters trace i m))
+        (sym (letters_later trace i k m from (omega arith))) bad in
+        stable whole (letters trace i m)
+        (λ none. ((law_at i m (omega arith) within).0 none).0 (k - i) (omega (arith, counted))
+        ((starts i k m from to within).0 goes) here)
+
+    waits : (i m : ℕ) → i ≤ m → m < length trace → Waits i m → By whole i m
+    waits i m ordered within w =
+        stable whole (letters trace i m)
+        (λ none. ((law_at i m ordered within).0 none).1 ((lacks i m ordered within).0 w))
+
+    miss : (i m : ℕ) → i ≤ m → m < length trace → ((k : ℕ) → i ≤ k → k ≤ m → Goes i k → ¬ By f k m) → ¬ Waits i m →
+        ¬ By whole i m
+    miss i m ordered within each done =
+        (law_at i m ordered within).1 (none, λ l. done ((lacks i m ordered within).1 l))
+      where
+        none : (j : ℕ) → j < length (letters trace i m) → Started (letters trace i m) j →
+            ¬ V f (drop j (letters trace i m))
+        none j inside begun bad =
+            let counted = letters_length trace i m ordered within in
+            let there : i + j ≤ m = omega (arith, counted) in
+            let place : (i + j) - i ≡ j = omega arith in
+            let same : drop j (letters trace i m) ≡ letters trace (i + j) m =
+            ap (λ (n : ℕ). drop n (letters trace i m)) (sym place)
+            ∙ letters_later trace i (i + j) m (omega arith) (omega arith) in
+            each (i + j) (omega arith) there
+            ((starts i (i + j) m (omega arith) there within).1
+            (subst (λ (n : ℕ). Started (letters trace i m) n) (sym place) begun))
+            (along f (drop j (letters trace i m)) (letters trace (i + j) m) same bad)
+
+    pub places_at : IsOfSome (length trace) Goes Waits (By whole) (By f)
+    places_at = record { hit = hit; waits = waits; miss = miss }
+
+  -- the body of `always f` is started at each place below a number
   abbrev pub AlwaysLaw : (places : ℕ → ℕ) → Base → Type 0
   AlwaysLaw places f = (ls : List Valuation) →
       (¬ V (always f) ls) ↔ ((k : ℕ) → k < places (length ls) → ¬ V f (drop k ls))
 
-  always_hit : (places : ℕ → ℕ) (f : Base) → ((n : ℕ) → n ≤ places n) → AlwaysLaw places f → (i m k : ℕ) → i ≤ k →
-      k ≤ m → m < length trace → By f k m → By (always f) i m
-  always_hit places f more law i m k from to within bad =
-      let ls = letters trace i m in
-      let counted = letters_length trace i m (omega arith) within in
-      let inside : k - i < places (length ls) = omega (arith, counted, more (length ls)) in
-      let e = sym (letters_later trace i k m from (omega arith)) in
-      let here = along f (letters trace k m) (drop (k - i) ls) e bad in
-      stable (always f) ls (λ none. (law ls).0 none (k - i) inside here)
+  abbrev Anywhere : List Valuation → ℕ → Type 0
+  Anywhere ls k = Unit {0}
 
-  at_place : (f : Base) (i m j : ℕ) → i ≤ m → j ≤ m - i → ((k : ℕ) → i ≤ k → k ≤ m → ¬ By f k m) →
-      ¬ V f (drop j (letters trace i m))
-  at_place f i m j ordered inside each bad =
-      let same : (i + j) - i ≡ j = omega arith in
-      let e : drop j (letters trace i m) ≡ letters trace (i + j) m =
-      ap (λ (n : ℕ). drop n (letters trace i m)) (sym same)
-      ∙ letters_later trace i (i + j) m (omega arith) (omega arith) in
-      each (i + j) (omega arith) (omega arith) (along f (drop j (letters trace i m)) (letters trace (i + j) m) e bad)
+  abbrev Nothing : List Valuation → Type 0
+  Nothing ls = ⊥
 
-  always_miss : (places : ℕ → ℕ) (f : Base) → ((n : ℕ) → places n ≤ suc n) →
-      ((n : ℕ) → n < places n → ¬ V f []) → AlwaysLaw places f → (i m : ℕ) → i ≤ m → m < length trace →
-      ((k : ℕ) → i ≤ k → k ≤ m → ¬ By f k m) → ¬ By (always f) i m
-  always_miss places f few last law i m ordered within each =
-      (law ls).1 (λ j inside. split j inside (cases_lt (m - i) j))
+  always_places : (places : ℕ → ℕ) (f : Base) → ((n : ℕ) → n ≤ places n) → ((n : ℕ) → places n ≤ suc n) →
+      ((n : ℕ) → n < places n → ¬ V f []) → AlwaysLaw places f → PlacesLaw Anywhere Nothing (always f) f
+  always_places places f more few last law ls some = (
+    (λ none. ((λ k inside begun. (law ls).0 none k (omega (arith, more (length ls)))), λ lack. lack)),
+    (λ p. (law ls).1 (λ k inside. split p.0 k inside (cases_lt k (length ls)))),
+  )
     where
-      ls : List Valuation
-      ls = letters trace i m
-
-      split : (j : ℕ) → j < places (length ls) → ((m - i) < j) ⊎ (j ≤ (m - i)) → ¬ V f (drop j ls)
-      split j inside (inr early) = at_place f i m j ordered early each
-      split j inside (inl late) =
-          let counted = letters_length trace i m ordered within in
-          let is : length ls ≡ j = omega (arith, counted, few (length ls)) in
-          let nothing : drop j ls ≡ [] = ap (λ (n : ℕ). drop n ls) (sym is) ∙ drop-length ls in
+      split : ((k : ℕ) → k < length ls → Anywhere ls k → ¬ V f (drop k ls)) → (k : ℕ) → k < places (length ls) →
+          (k < length ls) ⊎ (length ls ≤ k) → ¬ V f (drop k ls)
+      split each k inside (inl early) = each k early tt
+      split each k inside (inr late) =
+          let is : length ls ≡ k = omega (arith, few (length ls)) in
           let behind : length ls < places (length ls) = subst (λ (n : ℕ). n < places (length ls)) (sym is) inside in
-          λ bad. last (length ls) behind (along f (drop j ls) [] nothing bad)
+          λ bad. last (length ls) behind (along f (drop k ls) [] (drop_all k ls late) bad)
 
-  pub always_at : (cycles : ℕ) (places : ℕ → ℕ) (f : Base) → cycles ≡ length trace → ((n : ℕ) → n ≤ places n) →
+  pub always_at : (places : ℕ → ℕ) (f : Base) → ((n : ℕ) → n ≤ places n) →
       ((n : ℕ) → places n ≤ suc n) → ((n : ℕ) → n < places n → ¬ V f []) → AlwaysLaw places f →
-      IsOfSome cycles Always (By (always f)) (By f)
-  always_at cycles places f is more few last law = record {
-    hit = λ i m k from to within there. always_hit places f more law i m k from to (omega (arith, is));
-    miss = λ i m ordered within each.
-        always_miss places f few last law i m ordered (omega (arith, is)) (λ k from to. each k from to tt);
-  }
+      IsOfSome (length trace) Always Never (By (always f)) (By f)
+  always_at places f more few last law =
+      places_at Anywhere Nothing Always Never (always f) f (always_places places f more few last law)
+      (λ i k m from to within. ((λ h. h), (λ h. h))) (λ i m ordered within. ((λ h. h), (λ h. h)))
 
 -- a formula of the variants that are built obliges to no sequence
 pub built_obliges : (P : Sere → Type 0) (f : Base) → IsBuilt f → EachObligation P (named f)
@@ -131,10 +168,10 @@ built_obliges P (and f g) built = (built_obliges P f built.0, built_obliges P g 
 built_obliges P (or_bool e f) built = (tt, built_obliges P f built)
 built_obliges P (implies e f) built = (tt, built_obliges P f built)
 built_obliges P (always f) built = built_obliges P f built
-built_obliges P (next s k f) built = absurd built
-built_obliges P (next_all s low high f) built = absurd built
+built_obliges P (next s k f) built = built_obliges P f built
+built_obliges P (next_all s low high f) built = built_obliges P f built.1
 built_obliges P (next_some s low high e) built = absurd built
-built_obliges P (until s f e) built = absurd built
+built_obliges P (until s f e) built = (built_obliges P f built, tt)
 built_obliges P (event s on low high f) built = absurd built
 built_obliges P (event_some s on low high e) built = absurd built
 built_obliges P (seq r s) built = absurd built
@@ -149,10 +186,10 @@ no_steps (and f g) built = omega (arith, no_steps f built.0, no_steps g built.1)
 no_steps (or_bool e f) built = no_steps f built
 no_steps (implies e f) built = no_steps f built
 no_steps (always f) built = no_steps f built
-no_steps (next s k f) built = absurd built
-no_steps (next_all s low high f) built = absurd built
+no_steps (next s k f) built = no_steps f built
+no_steps (next_all s low high f) built = no_steps f built.1
 no_steps (next_some s low high e) built = absurd built
-no_steps (until s f e) built = absurd built
+no_steps (until s f e) built = no_steps f built
 no_steps (event s on low high f) built = absurd built
 no_steps (event_some s on low high e) built = absurd built
 no_steps (seq r s) built = absurd built
@@ -241,7 +278,7 @@ module _ (widths : List ℕ) where
     always_check f start start1 clear fail pend already nothing at_last starts body =
         always_answers (length trace) (Weak widths trace (always f)) (Weak widths trace f)
         (Full widths trace (always f)) (Full widths trace f) start start1 clear fail pend body starts
-        (always_at Already stable_already trace (length trace) (λ n. suc n) f refl
-        (λ n. omega arith) (λ n. omega arith) (λ n behind. nothing) already)
-        (always_at AtLast stable_at_last trace (length trace) (λ n. n) f refl
-        (λ n. omega arith) (λ n. omega arith) (λ n behind. absurd (omega arith)) at_last)
+        (always_at Already stable_already trace (λ n. suc n) f (λ n. omega arith) (λ n. omega arith)
+        (λ n behind. nothing) already)
+        (always_at AtLast stable_at_last trace (λ n. n) f (λ n. omega arith) (λ n. omega arith)
+        (λ n behind. absurd (omega arith)) at_last)

@@ -3,6 +3,7 @@ use Rattle.std.specs.Prelude.{ℕ, suc, ◌≡◌, ◌⊎◌, ◌<◌, ◌≤◌
 use Rattle.std.specs.Prelude.{Some, None}
 use Rattle.std.proofs.Common.{sym, ap, ◌∙◌, arith, inl, inr, get_or}
 use Rattle.std.proofs.lemmas.List.{length-take-le, length-drop, drop-take, drop-drop, take-append-drop, take-take}
+use Rattle.std.proofs.lemmas.List.{get_or-take, get_or-drop}
 use Rattle.std.proofs.lemmas.Option.{slice_get_within, get_or_from_slice_get, slice_get_cases}
 use Rattle.std.proofs.Math.Seq.{drop-cons}
 use Rattle.psl_meaning.specs.Word.{Valuation}
@@ -52,3 +53,24 @@ letters_grow trace i m n ordered =
     ap (λ (ls : List Valuation). ls ++ drop (suc m - i) (letters trace i n))
     (sym (take-take (suc m - i) (suc n - i) (drop i trace) (omega arith)))
     ∙ take-append-drop (suc m - i) (letters trace i n)
+
+-- the first of the letters i to m, up to k
+pub letters_take : (trace : List Valuation) (i k m : ℕ) → i ≤ k → k ≤ m →
+    take (suc (k - i)) (letters trace i m) ≡ letters trace i k
+letters_take trace i k m from to =
+    let counted : suc (k - i) ≡ suc k - i = omega arith in
+    ap (λ (n : ℕ). take n (letters trace i m)) counted
+    ∙ take-take (suc k - i) (suc m - i) (drop i trace) (omega arith)
+
+-- the one at place j among them
+pub letters_get : (trace : List Valuation) (i k j : ℕ) (d : Valuation) → i ≤ k → k < length trace →
+    j < length (letters trace i k) → (v : Valuation) × (slice_get trace (i + j) ≡ Some v)
+    × (get_or (letters trace i k) j d ≡ v)
+letters_get trace i k j d ordered within inside =
+    let counted = letters_length trace i k ordered within in
+    let v = value_there trace (i + j) (omega (arith, counted)) in (
+      v.0,
+      v.1,
+      get_or-take (suc k - i) (drop i trace) j d (omega (arith, counted))
+          ∙ get_or-drop i trace j d ∙ get_or_from_slice_get trace (i + j) v.0 d v.1,
+    )

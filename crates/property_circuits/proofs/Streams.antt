@@ -1,6 +1,6 @@
 -- How checks compose, on streams alone: no netlist, no formula.
-use Rattle.std.specs.Prelude.{ℕ, zero, suc, ◌≡◌, ◌≢◌, ◌↔◌, ◌⊎◌, ◌<◌, ◌≤◌}
-use Rattle.std.proofs.Common.{refl, sym, ◌∙◌, subst, arith, inl, inr}
+use Rattle.std.specs.Prelude.{ℕ, zero, suc, ◌≢◌, ◌↔◌, ◌⊎◌, ◌<◌, ◌≤◌, Bool, IsTrue}
+use Rattle.std.proofs.Common.{refl, subst, arith, inl, inr}
 use Rattle.std.proofs.lemmas.Bool.{cases_lt}
 use Rattle.circuit_core.specs.Run.{Stream, On}
 use Rattle.circuit_core.specs.Starts.{Open, SomeStart, ComesBy, HasViolated, Pends, Answers}
@@ -180,34 +180,50 @@ narrowed_answers cycles Needs Weak Weak1 Full Full1 start start1 clear fail pend
         let here = (weak s.0 bad.0 bad.1 (omega arith)).0 bad.4 in
         (s.0, s.1, (starts s.0 (omega arith)).1 (s.2, here.0), (bad.0, bad.1, bad.2, bad.3, here.1))
 
--- ---- a body that is started in each cycle k to which an open start i is kept up, `Reached i k`
+-- ---- a body that is started in each cycle k to which an open start i goes, where a start may wait by itself
 
--- the judgement holds exactly if the body's does of some such cycle, as far as a refutation goes
-pub record IsOfSome (cycles : ℕ) (Reached P Q : Judgement) : Type 0 where
-  pub hit : (i m k : ℕ) → i ≤ k → k ≤ m → m < cycles → Reached i k → Q k m → P i m
-  pub miss : (i m : ℕ) → i ≤ m → m < cycles → ((k : ℕ) → i ≤ k → k ≤ m → Reached i k → ¬ Q k m) → ¬ P i m
+-- the judgement holds exactly if the body's does of some such cycle, or the start waits, as far as a refutation goes
+pub record IsOfSome (cycles : ℕ) (Goes Waits P Q : Judgement) : Type 0 where
+  pub hit : (i m k : ℕ) → i ≤ k → k ≤ m → m < cycles → Goes i k → Q k m → P i m
+  pub waits : (i m : ℕ) → i ≤ m → m < cycles → Waits i m → P i m
+  pub miss : (i m : ℕ) → i ≤ m → m < cycles → ((k : ℕ) → i ≤ k → k ≤ m → Goes i k → ¬ Q k m) → ¬ Waits i m → ¬ P i m
 
-pub suffix_answers : (cycles : ℕ) (Reached Weak Weak1 Full Full1 : Judgement) (start start1 clear fail pend : Stream) →
-    Answers cycles Weak1 Full1 start1 clear fail pend →
-    ((n : ℕ) → n < cycles → On start1 n ↔ SomeStart start n (λ i. Open clear i n × Reached i n)) →
-    IsOfSome cycles Reached Weak Weak1 → IsOfSome cycles Reached Full Full1 →
+abbrev pub Never : Judgement
+Never i m = ⊥
+
+abbrev pub Always : Judgement
+Always i m = Unit {0}
+
+-- some open start meets the judgement
+abbrev pub SomeOpen : (start clear : Stream) → Judgement → ℕ → Type 0
+SomeOpen start clear P n = SomeStart start n (λ i. Open clear i n × P i n)
+
+pub gate_answers : (cycles : ℕ) (Goes Waits Weak Weak1 Full Full1 : Judgement)
+    (start go clear fail pend1 pend : Stream) → Answers cycles Weak1 Full1 go clear fail pend1 →
+    ((n : ℕ) → n < cycles → On go n ↔ SomeOpen start clear Goes n) →
+    ((n : ℕ) → n < cycles → On pend n ↔ (On pend1 n ⊎ SomeOpen start clear Waits n)) →
+    IsOfSome cycles Goes Never Weak Weak1 → IsOfSome cycles Goes Waits Full Full1 →
     Answers cycles Weak Full start clear fail pend
-suffix_answers cycles Reached Weak Weak1 Full Full1 start start1 clear fail pend body starts weak full = record {
-  fails = λ n within. (
-    (λ come. out n within ((body.fails n within).0 come)),
-    (λ some. came n within some (comes_or_not fail n)),
-  );
-  pends = λ n within none.
-      let same = body.pends n within (λ s. none (out n within s)) in (
-        (λ on. let s = same.0 on in
-            let from = (starts s.0 (omega arith)).0 s.2 in
-            let now = full.hit from.0 n s.0 from.1 s.1 within from.3.1 s.3.1 in
-            (from.0, omega arith, from.2, (open_join clear from.0 s.0 n from.3.0 s.3.0, now))),
-        (λ s. pended n within s (λ on. same.1 on) (on_or_off pend n)),
+gate_answers cycles Goes Waits Weak Weak1 Full Full1 start go clear fail pend1 pend body starts pends weak full =
+    record {
+      fails = λ n within. (
+        (λ come. out n within ((body.fails n within).0 come)),
+        (λ some. came n within some (comes_or_not fail n)),
       );
-}
+      pends = λ n within none.
+          let same = body.pends n within (λ s. none (out n within s)) in (
+            (λ on. elim ((pends n within).0 on) [
+              | inl on1 ↦ (let s = same.0 on1 in
+                  let from = (starts s.0 (omega arith)).0 s.2 in
+                  let now = full.hit from.0 n s.0 from.1 s.1 within from.3.1 s.3.1 in
+                  (from.0, omega arith, from.2, (open_join clear from.0 s.0 n from.3.0 s.3.0, now)))
+              | inr s ↦ (s.0, s.1, s.2, (s.3.0, full.waits s.0 n s.1 within s.3.1))
+            ]),
+            (λ s. pended n within s (λ on. same.1 on) (on_or_off pend n)),
+          );
+    }
   where
-    out : (n : ℕ) → n < cycles → SomeStart start1 n (HasViolated Weak1 clear n) →
+    out : (n : ℕ) → n < cycles → SomeStart go n (HasViolated Weak1 clear n) →
         SomeStart start n (HasViolated Weak clear n)
     out n within s =
         let bad = s.3 in
@@ -230,81 +246,46 @@ suffix_answers cycles Reached Weak Weak1 Full Full1 start start1 clear fail pend
         let kept = open_from clear s.0 bad.0 k bad.3 from in
         let c = (body.fails n within).1 (k, omega arith, begun, (bad.0, to, bad.2, kept, w)) in
         none c.0 c.1 c.2)
+        (λ never. never)
         bad.4)
 
     pended : (n : ℕ) → n < cycles → SomeStart start n (Pends Full clear n) →
-        (SomeStart start1 n (Pends Full1 clear n) → On pend n) → On pend n ⊎ ¬ On pend n → On pend n
+        (SomeStart go n (Pends Full1 clear n) → On pend1 n) → On pend n ⊎ ¬ On pend n → On pend n
     pended n within s same (inl on) = on
     pended n within s same (inr off) =
         absurd (full.miss s.0 n s.1 within
         (λ k from to there v.
         let begun = (starts k (omega arith)).1 (s.0, from, s.2, (open_to clear s.0 n k s.3.0 to, there)) in
-        off (same (k, to, begun, (open_from clear s.0 n k s.3.0 from, v))))
+        off ((pends n within).1 (inl (same (k, to, begun, (open_from clear s.0 n k s.3.0 from, v))))))
+        (λ w. off ((pends n within).1 (inr (s.0, s.1, s.2, (s.3.0, w)))))
         s.3.1)
 
 -- ---- a body that is started in each cycle in which a start is open
 
-abbrev pub Always : Judgement
-Always i k = Unit {0}
-
 pub always_answers : (cycles : ℕ) (Weak Weak1 Full Full1 : Judgement) (start start1 clear fail pend : Stream) →
     Answers cycles Weak1 Full1 start1 clear fail pend →
     ((n : ℕ) → n < cycles → On start1 n ↔ SomeStart start n (λ i. Open clear i n)) →
-    IsOfSome cycles Always Weak Weak1 → IsOfSome cycles Always Full Full1 →
+    IsOfSome cycles Always Never Weak Weak1 → IsOfSome cycles Always Never Full Full1 →
     Answers cycles Weak Full start clear fail pend
 always_answers cycles Weak Weak1 Full Full1 start start1 clear fail pend body starts weak full =
-    suffix_answers cycles Always Weak Weak1 Full Full1 start start1 clear fail pend body
+    gate_answers cycles Always Never Weak Weak1 Full Full1 start start1 clear fail pend pend body
     (λ n within. let s = starts n within in
     ((λ on. let x = s.0 on in (x.0, x.1, x.2, (x.3, tt))), (λ x. s.1 (x.0, x.1, x.2, x.3.0))))
+    (λ n within. ((λ on. inl on), (λ x. elim x [ inl on ↦ on | inr none ↦ absurd none.3.1 ])))
     weak full
 
--- ---- the register of an open start: it holds what was open in the cycle before
+-- ---- a gate's own pending, in a strong form
 
-abbrev IsOpenAt : (start clear live : Stream) → ℕ → Type 0
-IsOpenAt start clear live n = On live n ↔ SomeStart start n (λ i. Open clear i n)
-
-open_step : (start clear held live : Stream) (n : ℕ) → IsOpenAt start clear live n → held (suc n) ≡ live n →
-    (On live (suc n) ↔ ((On start (suc n) ⊎ On held (suc n)) × ¬ On clear (suc n))) →
-    IsOpenAt start clear live (suc n)
-open_step start clear held live n before follows lives = (
-  (λ on. let now = lives.0 on in out now.1 now.0),
-  (λ s. lives.1 (now_or_held s (cases_lt n s.0), s.3 (suc n) s.1 (omega arith))),
+pub strong_waits : (strong : Bool) (Waits : Judgement) (start clear pend1 waits pend : Stream) (n : ℕ) →
+    On waits n ↔ SomeOpen start clear Waits n → On pend n ↔ (On pend1 n ⊎ (IsTrue strong × On waits n)) →
+    On pend n ↔ (On pend1 n ⊎ SomeOpen start clear (λ i m. IsTrue strong × Waits i m) n)
+strong_waits strong Waits start clear pend1 waits pend n some joins = (
+  (λ on. elim (joins.0 on) [
+    | inl x ↦ inl x
+    | inr x ↦ (let s = some.0 x.1 in inr (s.0, s.1, s.2, (s.3.0, (x.0, s.3.1))))
+  ]),
+  (λ h. joins.1 (elim h [
+    | inl x ↦ inl x
+    | inr s ↦ inr (s.3.1.0, some.1 (s.0, s.1, s.2, (s.3.0, s.3.1.1)))
+  ])),
 )
-  where
-    later : ¬ On clear (suc n) → ¬ On clear n → Open clear n (suc n)
-    later off was k from to = elim (cases_lt n k) [
-      | inl now ↦ subst (λ (j : ℕ). ¬ On clear j) (omega arith) off
-      | inr old ↦ subst (λ (j : ℕ). ¬ On clear j) (omega arith) was
-    ]
-
-    out : ¬ On clear (suc n) → On start (suc n) ⊎ On held (suc n) →
-        SomeStart start (suc n) (λ i. Open clear i (suc n))
-    out off (inl s) = (suc n, omega arith, s, open_one clear (suc n) off)
-    out off (inr h) =
-        let s = before.0 (λ e. h (follows ∙ e)) in
-        (s.0, omega arith, s.2, open_join clear s.0 n (suc n) s.3 (later off (s.3 n s.1 (omega arith))))
-
-    now_or_held : (s : SomeStart start (suc n) (λ i. Open clear i (suc n))) → (n < s.0) ⊎ (s.0 ≤ n) →
-        On start (suc n) ⊎ On held (suc n)
-    now_or_held s (inl new) = inl (subst (λ (j : ℕ). On start j) (omega arith) s.2)
-    now_or_held s (inr old) =
-        let was = before.1 (s.0, old, s.2, open_to clear s.0 (suc n) n s.3 (omega arith)) in
-        inr (λ e. was (sym follows ∙ e))
-
-pub open_starts : (cycles : ℕ) (start clear held live : Stream) → (0 < cycles → ¬ On held 0) →
-    ((n : ℕ) → suc n < cycles → held (suc n) ≡ live n) →
-    ((n : ℕ) → n < cycles → On live n ↔ ((On start n ⊎ On held n) × ¬ On clear n)) →
-    (n : ℕ) → n < cycles → On live n ↔ SomeStart start n (λ i. Open clear i n)
-open_starts cycles start clear held live begins follows lives zero within = (
-  (λ on. let now = (lives 0 within).0 on in out now.1 now.0),
-  (λ s. (lives 0 within).1
-      (inl (subst (λ (j : ℕ). On start j) (omega arith) s.2), s.3 0 (omega arith) (omega arith))),
-)
-  where
-    out : ¬ On clear 0 → On start 0 ⊎ On held 0 → SomeStart start 0 (λ i. Open clear i 0)
-    out off (inl s) = (0, omega arith, s, open_one clear 0 off)
-    out off (inr h) = absurd (begins within h)
-open_starts cycles start clear held live begins follows lives (suc n) within =
-    open_step start clear held live n
-    (open_starts cycles start clear held live begins follows lives n (omega arith))
-    (follows n within) (lives (suc n) within)

@@ -1,7 +1,7 @@
 -- Which base formulas circuits are made of.
---     IsBuilt f            each operator of f is one that is built
+--     IsBuilt f            each operator of f is one that is built, and no range ends before it begins
 --     HasGuards widths f   its expressions are guards over signals of these widths
-use Rattle.std.specs.Prelude.{List, ℕ}
+use Rattle.std.specs.Prelude.{List, ℕ, ◌≤◌}
 use Rattle.psl_model.specs.Sere as sere
 use Rattle.psl_rewrite.specs.Base.{Base, bool, and, or_bool, implies, always, next, next_all, next_some, until, event}
 use Rattle.psl_rewrite.specs.Base.{event_some, seq, eventually, suffix, abort}
@@ -13,10 +13,10 @@ IsBuilt (and f g) = IsBuilt f × IsBuilt g
 IsBuilt (or_bool e f) = IsBuilt f
 IsBuilt (implies e f) = IsBuilt f
 IsBuilt (always f) = IsBuilt f
-IsBuilt (next s k f) = ⊥
-IsBuilt (next_all s low high f) = ⊥
+IsBuilt (next s k f) = IsBuilt f
+IsBuilt (next_all s low high f) = (low ≤ high) × IsBuilt f
 IsBuilt (next_some s low high e) = ⊥
-IsBuilt (until s f e) = ⊥
+IsBuilt (until s f e) = IsBuilt f
 IsBuilt (event s on low high f) = ⊥
 IsBuilt (event_some s on low high e) = ⊥
 IsBuilt (seq r s) = ⊥

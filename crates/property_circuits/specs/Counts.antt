@@ -3,10 +3,9 @@
 --     budget_of f       that, and the one of the directive, which tells the first cycle
 --     steps_of f        the steps of its sequences' tables
 -- Nothing is counted for a sequence yet: no formula with one is built.
-use Rattle.std.specs.Prelude.{ℕ, ◌+◌, ◌^◌, min, map, sum}
+use Rattle.std.specs.Prelude.{ℕ, ◌+◌, ◌^◌, min}
 use Rattle.psl_rewrite.specs.Base.{Base, bool, and, or_bool, implies, always, next, next_all, next_some, until, event}
 use Rattle.psl_rewrite.specs.Base.{event_some, seq, eventually, suffix, abort}
-use Rattle.circuit_core.specs.Netlist.{Register, Netlist}
 
 abbrev pub registers_of : Base → ℕ
 registers_of (bool e) = 0
@@ -55,6 +54,3 @@ step_limit = 1000000
 -- a count as it is told: 2^63 stands for all from there on
 abbrev pub told : ℕ → ℕ
 told count = min count (2 ^ 63)
-
-abbrev pub register_bits : Netlist → ℕ
-register_bits m = sum (map (λ (r : Register). r.width) m.registers)

@@ -5,7 +5,8 @@
 --     StartPends .. n i      at n, start i pends
 --     IsCheck ..             `fail` and `pend` tell which starts violate and pend
 --     IsCheckIn m ..         the same of four nets, in each run of the netlist
-use Rattle.std.specs.Prelude.{ℕ, suc, ◌⊎◌, ◌≡◌, ◌-◌, ◌<◌, ◌≤◌, List, length, take, drop}
+--     IsGateOf ..            a gate starts a body so that a check of the body becomes one of the whole
+use Rattle.std.specs.Prelude.{ℕ, suc, ◌⊎◌, ◌≡◌, ◌↔◌, ◌-◌, ◌<◌, ◌≤◌, Bool, IsTrue, List, length, take, drop}
 use Rattle.psl_meaning.specs.Word.{Valuation}
 use Rattle.psl_meaning.specs.Violation.{WeaklyViolates, Violates}
 use Rattle.psl_rewrite.specs.Base.{Base}
@@ -49,3 +50,14 @@ pub record IsStop (clear : Stream) (i n stop : ℕ) : Type 0 where
   pub to : stop ≤ suc n
   pub before : (k : ℕ) → i ≤ k → k < stop → ¬ On clear k
   pub at : (stop ≡ suc n) ⊎ On clear stop
+
+-- `pend` is on where the body's is and, in a strong form, where the gate waits
+abbrev pub WaitsIfStrong : (cycles : ℕ) → (strong : Bool) → (body_pend waits pend : Stream) → Type 0
+WaitsIfStrong cycles strong body_pend waits pend = (n : ℕ) → n < cycles →
+    On pend n ↔ (On body_pend n ⊎ (IsTrue strong × On waits n))
+
+abbrev pub IsGateOf : (widths : List ℕ) → List Valuation → (strong : Bool) → (whole body : Base) →
+    (start clear go waits : Stream) → Type 0
+IsGateOf widths trace strong whole body start clear go waits = (fail body_pend pend : Stream) →
+    IsCheck widths trace body go clear fail body_pend → WaitsIfStrong (length trace) strong body_pend waits pend →
+    IsCheck widths trace whole start clear fail pend

@@ -9,7 +9,7 @@ ghost use Rattle.circuit_core.specs.Growth.{Extends, Grows};
 ghost use Rattle.circuit_core.specs.WellMade.{IsWidth, IsFinished};
 ghost use Rattle.property_circuits.specs.Conditions.{IsBuilt, HasGuards};
 ghost use Rattle.property_circuits.specs.Counts.{budget_of, steps_of, register_limit, step_limit, told};
-ghost use Rattle.property_circuits.specs.Counts.{register_bits};
+ghost use Rattle.strong_obligations.specs.Bits.{register_bits};
 ghost use Rattle.circuit_meaning.specs.Checks.{Checks};
 ghost use Rattle.property_circuits.specs.Refusals.{IsRefusal, HasTooManyRegisters};
 ghost use Rattle.property_circuits.specs.declared.circuits.CircuitError.TheVariants.{OutOfMemory};
@@ -22,6 +22,7 @@ use psl_meaning::laws::weak_violation_persists;
 use psl_rewrite::Base;
 use psl_rewrite::violations::a_weak_violation_is_a_violation;
 use std::alloc::{AllocError, Global};
+use strong_obligations::laws::each_register_has_one_bit;
 
 /// The most bits that the registers of a module may have.
 const REGISTER_LIMIT: u64 = 65_536;
@@ -108,6 +109,7 @@ fn whole_check(alloc: Global, base: &Base, widths: &[u32]) -> Result<Netlist, Al
     weak_violation_persists();
     a_weak_violation_is_a_violation();
     growths_join();
+    each_register_has_one_bit();
     let mut net = over(alloc, widths)?;
     let (start, never) = first_cycle(&mut net)?;
     let check = check_at(&mut net, base, start, never)?;

@@ -9,15 +9,18 @@ ghost use Rattle.circuit_core.specs.Run.{Stream, On};
 ghost use Rattle.circuit_core.specs.Starts.{SomeStart, ComesBy};
 ghost use Rattle.circuit_core.specs.Growth.{Extends, Grows};
 ghost use Rattle.property_circuits.specs.Conditions.{IsBuilt, HasGuards};
-ghost use Rattle.property_circuits.specs.Counts.{registers_of, register_bits};
+ghost use Rattle.property_circuits.specs.Counts.{registers_of};
+ghost use Rattle.strong_obligations.specs.Bits.{register_bits};
 ghost use Rattle.property_circuits.specs.Starts.{IsCheck, IsCheckIn, IsStop, StartViolates, StartPends, Weak};
 
+use crate::gates::{join_waiting, later_starts, starts_until};
 use crate::parts::{check_bool, join, open_starts, starts_with, starts_without};
-use circuit_core::laws::{a_netlist_is_well_made, growths_join};
+use circuit_core::laws::{a_netlist_is_well_made, extensions_join, growths_join};
 use circuit_core::{Check, Net, Netlist};
 use psl_meaning::laws::weak_violation_persists;
 use psl_rewrite::Base;
 use std::alloc::AllocError;
+use strong_obligations::laws::each_register_has_one_bit;
 
 /// The check of a base formula that two nets start and clear, whatever their streams. The old nets and registers stay,
 /// and the new registers are set.
@@ -34,6 +37,7 @@ pub fn check_at(net: &mut Netlist, base: &Base, start: Net, clear: Net) -> Resul
     ensures check { IfOk result (λ c.
         IsCheckIn net.new net.old.widths (base_of base.now) start.0 clear.0 c.fail.0 c.pend.0) }
 {
+    each_register_has_one_bit();
     a_netlist_is_well_made(net);
     let check = check_variant(net, base, start, clear)?;
     a_netlist_is_well_made(net);
@@ -59,6 +63,7 @@ fn check_variant(
         IsCheckIn net.new net.old.widths (base_of base.now) start.0 clear.0 c.fail.0 c.pend.0) }
 {
     growths_join();
+    extensions_join();
     match base {
         Base::Bool(expr) => {
             let check = check_bool(net, expr, start, clear)?;
@@ -84,6 +89,33 @@ fn check_variant(
             let begun = open_starts(net, start, clear)?;
             let each = check_variant(net, body.get(), begun, clear)?;
             Ok(each)
+        }
+        Base::Next {
+            strong,
+            count,
+            body,
+        } => {
+            let gate = later_starts(net, *count, *count, start, clear)?;
+            let each = check_variant(net, body.get(), gate.go, clear)?;
+            let check = join_waiting(net, each, *strong, gate.pend)?;
+            Ok(check)
+        }
+        Base::NextAll {
+            strong,
+            low,
+            high,
+            body,
+        } => {
+            let gate = later_starts(net, *low, *high, start, clear)?;
+            let each = check_variant(net, body.get(), gate.go, clear)?;
+            let check = join_waiting(net, each, *strong, gate.pend)?;
+            Ok(check)
+        }
+        Base::Until { strong, body, stop } => {
+            let gate = starts_until(net, stop, start, clear)?;
+            let each = check_variant(net, body.get(), gate.go, clear)?;
+            let check = join_waiting(net, each, *strong, gate.pend)?;
+            Ok(check)
         }
         _ => unreachable!(),
     }

@@ -3,6 +3,7 @@
 
 mod circuits;
 mod counts;
+mod gates;
 pub mod laws;
 mod parts;
 

@@ -114,7 +114,7 @@ pub fn starts_with(net: &mut Netlist, expr: &Expr, start: Net) -> Result<Net, Al
 }
 
 // On in each cycle in which some start is open, its own included: a body that is checked from these cycles on is
-// checked always. A register holds the starts of earlier cycles.
+// checked always.
 pub fn open_starts(net: &mut Netlist, start: Net, clear: Net) -> Result<Net, AllocError>
     requires start { IsNet net.old start.0 }
     requires clear { IsNet net.old clear.0 }
@@ -129,11 +129,6 @@ pub fn open_starts(net: &mut Netlist, start: Net, clear: Net) -> Result<Net, All
     tops_for_ever_satisfy();
     always_is_its_body_at_each_place();
     always_is_its_body_at_each_place_so_far();
-    extensions_join();
-    let (register, held) = net.reg(1, 0)?;
-    let begun = net.or(start, held)?;
-    let kept = net.not(clear)?;
-    let live = net.and(begun, kept)?;
-    net.set_next(register, live);
+    let live = strong_obligations::open_starts(net, start, clear)?;
     Ok(live)
 }

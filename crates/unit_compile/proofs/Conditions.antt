@@ -1,5 +1,5 @@
 -- A unit for which a text stands is one that the compiler takes.
-use Rattle.std.proofs.Common.{◌≡◌, ◌≢◌, ℕ, ◌+◌, ◌<◌, ◌≤◌, ◌^◌, List, Option, None, Some, All, map, length, arith}
+use Rattle.std.proofs.Common.{◌≢◌, ℕ, ◌+◌, ◌<◌, ◌≤◌, ◌^◌, List, Option, None, Some, All, map, arith}
 use Rattle.std.specs.List.{AllPairs}
 use Rattle.std.specs.Option.{IfSome}
 use Rattle.psl_model.specs.declared.names.Signal.{Signal}

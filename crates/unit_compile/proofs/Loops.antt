@@ -1,5 +1,6 @@
 -- One directive after the other.
-use Rattle.std.proofs.Common.{◌≡◌, ℕ, zero, suc, ◌+◌, ◌<◌, ◌≤◌, Bool, true, false, cond, ◌&&◌, Option, None, Some, List, []}
+use Rattle.std.proofs.Common.{◌≡◌, ℕ, suc, ◌+◌, ◌<◌, ◌≤◌, Bool, true, false, cond, Option, None, Some, List, []}
+use Rattle.std.specs.Prelude.{slice_get}
 use Rattle.std.proofs.Common.{◌∷◌, ◌++◌, length, map, drop, get_or, refl, ap, sym, subst, ◌∙◌, append_assoc, add-one}
 use Rattle.std.proofs.Common.{All, arith, nat_lt, inl, inr}
 use Rattle.std.proofs.Math.Seq.{drop-cons, drop-length}
@@ -9,14 +10,15 @@ use Rattle.std.proofs.lemmas.List.Elements.{All-nil, All-cons}
 use Rattle.psl_model.specs.declared.refusals.Refusal.{Refusal}
 use Rattle.psl_model.specs.declared.refusals.Refusal.TheVariants.{TooManyRegisters}
 use Rattle.psl_model.specs.declared.units.Directive as declared
-use Rattle.psl_model.specs.FormulaView.{formula_of}
 use Rattle.psl_model.specs.Unit.{PslUnit, Directive}
 use Rattle.psl_model.specs.UnitView.{directive_of}
 use Rattle.property_circuits.specs.Counts.{register_limit, told}
 use Rattle.verilog_text.specs.Module.{Module}
-use Rattle.mbac_compile.specs.Built.{is_built}
-use Rattle.unit_compile.specs.Built.{are_built, bits_of, first_full}
-use Rattle.unit_compile.specs.Made.{IsMade, AreMade}
+use Rattle.simple_subset.specs.Subset.{broken_rules, first_broken}
+use Rattle.psl_rewrite.specs.BaseForm.{base_form_of}
+use Rattle.mbac_compile.specs.Built.{is_built, IsBuilt}
+use Rattle.unit_compile.specs.Built.{form_refusal, unfit_refusal, sooner, first_unfit, bits_of, first_full}
+use Rattle.unit_compile.specs.Made.{AreMade}
 use Rattle.unit_compile.specs.inner.Unmade.{HasOneMore, IsTooFull, IsUnmade, IsUnfilled}
 
 abbrev pub plain : List declared.Directive → List Directive
@@ -55,50 +57,66 @@ none_at : (xs : List declared.Directive) (i : ℕ) → i ≡ length xs → plain
 none_at xs i e =
     ap (λ (n : ℕ). drop n (plain xs)) (e ∙ sym (length-map xs directive_of)) ∙ drop-length (plain xs)
 
--- ---- whether all are built
+-- ---- the forms of all
 
-abbrev pub BuiltSoFar : List declared.Directive → (i : ℕ) → Type 0
-BuiltSoFar xs i = are_built (plain xs) ≡ are_built (plain_from xs i)
+abbrev pub FitsSoFar : List declared.Directive → (i : ℕ) → Type 0
+FitsSoFar xs i = first_unfit 1 (plain xs) ≡ first_unfit (i + 1) (plain_from xs i)
 
-pub built_next : (xs : List declared.Directive) (i : ℕ) (x : declared.Directive) (own : Bool) → StandsAt xs i x
-    → own ≡ is_built (directive_of x).formula → BuiltSoFar xs i
-    → are_built (plain xs) ≡ own && are_built (plain_from xs (i + 1))
-built_next xs i x own at e so_far =
-    so_far ∙ ap are_built (next_at xs i x at)
-    ∙ ap (λ (b : Bool). b && are_built (plain_from xs (i + 1))) (sym e)
+forms_next : (xs : List declared.Directive) (i : ℕ) (x : declared.Directive) (own : Option Refusal) → StandsAt xs i x
+    → unfit_refusal (i + 1) (directive_of x) ≡ own → FitsSoFar xs i
+    → first_unfit 1 (plain xs) ≡ sooner own (first_unfit (suc (i + 1)) (plain_from xs (i + 1)))
+forms_next xs i x own at e so_far =
+    so_far ∙ ap (first_unfit (i + 1)) (next_at xs i x at)
+    ∙ ap (λ (o : Option Refusal). sooner o (first_unfit (suc (i + 1)) (plain_from xs (i + 1)))) e
 
-pub built_more : (xs : List declared.Directive) (i : ℕ) (x : declared.Directive) (own : Bool) → i < length xs
-    → x ≡ get_or xs i x → own ≡ is_built (directive_of x).formula → own ≡ true → BuiltSoFar xs i
-    → BuiltSoFar xs (i + 1)
-built_more xs i x own lt read e good so_far =
-    built_next xs i x own (record { within = lt; read = read }) e so_far
-    ∙ ap (λ (b : Bool). b && are_built (plain_from xs (i + 1))) good
+pub forms_more : (xs : List declared.Directive) (i : ℕ) (x : declared.Directive) → StandsAt xs i x
+    → unfit_refusal (i + 1) (directive_of x) ≡ None → FitsSoFar xs i → FitsSoFar xs (i + 1)
+forms_more xs i x at e so_far =
+    forms_next xs i x None at e so_far
+    ∙ ap (λ (n : ℕ). first_unfit n (plain_from xs (i + 1))) (sym (add-one (i + 1)))
 
-pub built_not : (xs : List declared.Directive) (i : ℕ) (x : declared.Directive) (own : Bool) → i < length xs
-    → x ≡ get_or xs i x → own ≡ is_built (directive_of x).formula → own ≡ false → BuiltSoFar xs i
-    → are_built (plain xs) ≡ false
-built_not xs i x own lt read e bad so_far =
-    built_next xs i x own (record { within = lt; read = read }) e so_far
-    ∙ ap (λ (b : Bool). b && are_built (plain_from xs (i + 1))) bad
+pub forms_unfit : (xs : List declared.Directive) (i : ℕ) (x : declared.Directive) (r : Refusal) → StandsAt xs i x
+    → unfit_refusal (i + 1) (directive_of x) ≡ Some r → FitsSoFar xs i → first_unfit 1 (plain xs) ≡ Some r
+forms_unfit xs i x r at e so_far = forms_next xs i x (Some r) at e so_far
 
-pub built_whole : (xs : List declared.Directive) (i : ℕ) → i ≡ length xs → BuiltSoFar xs i → are_built (plain xs) ≡ true
-built_whole xs i e so_far = so_far ∙ ap are_built (none_at xs i e)
+pub forms_whole : (xs : List declared.Directive) (i : ℕ) → i ≡ length xs → FitsSoFar xs i
+    → first_unfit 1 (plain xs) ≡ None
+forms_whole xs i e so_far = so_far ∙ ap (first_unfit (i + 1)) (none_at xs i e)
 
-first_true : (a b : Bool) → a && b ≡ true → a ≡ true
-first_true true b h = refl
-first_true false b h = absurd (cc h)
+-- ---- what a form that isn't refused says
 
-second_true : (a b : Bool) → a && b ≡ true → b ≡ true
-second_true true b h = h
-second_true false b h = absurd (cc h)
+none_of : (number : ℕ) (broken : Option ℕ) (built : Bool) → form_refusal number broken built ≡ None
+    → (broken ≡ None) × (built ≡ true)
+none_of number (Some rule) built h = absurd (cc h)
+none_of number None true h = (refl, refl)
+none_of number None false h = absurd (cc h)
 
-pub each_built : (xs : List declared.Directive) → are_built (plain xs) ≡ true
-    → All (λ (d : declared.Directive). is_built (directive_of d).formula ≡ true) xs
-each_built [] h = All-nil (λ (d : declared.Directive). is_built (directive_of d).formula ≡ true)
-each_built (x ∷ xs) h =
-    All-cons (λ (d : declared.Directive). is_built (directive_of d).formula ≡ true) x xs
-    (first_true (is_built (directive_of x).formula) (are_built (plain xs)) h)
-    (each_built xs (second_true (is_built (directive_of x).formula) (are_built (plain xs)) h))
+first_fits : (o p : Option Refusal) → sooner o p ≡ None → o ≡ None
+first_fits None p h = refl
+first_fits (Some r) p h = absurd (cc h)
+
+rest_fits : (o p : Option Refusal) → sooner o p ≡ None → p ≡ None
+rest_fits None p h = h
+rest_fits (Some r) p h = absurd (cc h)
+
+no_rules : (rules : List ℕ) → slice_get rules 0 ≡ None → rules ≡ []
+no_rules [] h = refl
+no_rules (n ∷ rules) h = absurd (cc h)
+
+built_of : (number : ℕ) (d : Directive) → unfit_refusal number d ≡ None → IsBuilt d.formula
+built_of number d h =
+    let both = none_of number (first_broken d.formula) (is_built (base_form_of d.formula)) h in
+    record { simple = no_rules (broken_rules d.formula) both.0; form = both.1 }
+
+pub each_built : (number : ℕ) (xs : List declared.Directive) → first_unfit number (plain xs) ≡ None
+    → All (λ (d : declared.Directive). IsBuilt (directive_of d).formula) xs
+each_built number [] h = All-nil (λ (d : declared.Directive). IsBuilt (directive_of d).formula)
+each_built number (x ∷ xs) h =
+    All-cons (λ (d : declared.Directive). IsBuilt (directive_of d).formula) x xs
+    (built_of number (directive_of x)
+    (first_fits (unfit_refusal number (directive_of x)) (first_unfit (suc number) (plain xs)) h))
+    (each_built (suc number) xs
+    (rest_fits (unfit_refusal number (directive_of x)) (first_unfit (suc number) (plain xs)) h))
 
 -- ---- their checkers
 

@@ -1,6 +1,6 @@
 -- The checkers of a unit have different names: labels differ, numbers differ, and no label begins with a digit.
-use Rattle.std.proofs.Common.{◌≡◌, ◌≢◌, ◌⊎◌, inl, inr, ℕ, zero, suc, ◌+◌, ◌<◌, ◌≤◌, ◌^◌, ◌%◌, Bool, true, false, ◌||◌}
-use Rattle.std.proofs.Common.{◌&&◌, ◌==◌, Option, None, Some, List, [], ◌∷◌, ◌++◌, All, length, map, get_or, refl, ap}
+use Rattle.std.proofs.Common.{◌≡◌, ◌≢◌, ◌⊎◌, inl, inr, ℕ, suc, ◌+◌, ◌<◌, ◌≤◌, ◌^◌, ◌%◌, Bool, true, false, ◌||◌}
+use Rattle.std.proofs.Common.{◌&&◌, ◌==◌, Option, None, Some, List, [], ◌∷◌, ◌++◌, All, length, map, refl}
 use Rattle.std.proofs.Common.{sym, subst, ◌∙◌, arith, nat_le}
 use Rattle.std.proofs.lemmas.Bool.Decides.{nat_tests}
 use Rattle.std.proofs.lemmas.Fmt.{decimal_by_steps, decimal_injective}
@@ -14,7 +14,7 @@ use Rattle.psl_model.specs.Limits.{unit_text_limit}
 use Rattle.psl_model.specs.Names.{IsIdentifier, begins_name, between}
 use Rattle.psl_model.specs.Unit.{PslUnit, Directive}
 use Rattle.verilog_text.specs.Module.{Module}
-use Rattle.checker_meaning.specs.Headline.{call_name, module_name}
+use Rattle.checker_meaning.specs.Headline.{call_name}
 use Rattle.unit_conditions.specs.Labels.{Differ, HaveOwnLabels}
 use Rattle.unit_compile.specs.Made.{IsMade, AreMade}
 

@@ -1,5 +1,5 @@
 -- A text is refused for one reason at most, and not where checkers are made of it.
-use Rattle.std.proofs.Common.{◌≡◌, ◌⊎◌, inl, inr, ℕ, List, Option, None, Some, refl, sym, ap, subst, ◌∙◌}
+use Rattle.std.proofs.Common.{◌≡◌, inl, inr, ℕ, List, Option, None, Some, sym, ap, subst, ◌∙◌}
 use Rattle.psl_lexer.specs.declared.kinds.Token.{Token}
 use Rattle.psl_lexer.specs.declared.kinds.LexError.{LexError}
 use Rattle.psl_lexer.specs.Splits.{Splits, Faults}
@@ -12,10 +12,10 @@ use Rattle.psl_model.specs.declared.refusals.Refusal.{Refusal}
 use Rattle.psl_model.specs.Unit.{PslUnit}
 use Rattle.psl_units.specs.StandsForUnit.{StandsForUnit}
 use Rattle.unit_compile.specs.Offsets.{token_refusal, rule_refusal}
-use Rattle.unit_compile.specs.Built.{AreBuilt, first_full}
+use Rattle.unit_compile.specs.Built.{AreBuilt, first_unfit, first_full}
 use Rattle.unit_compile.specs.Made.{IsAccepted}
-use Rattle.unit_compile.specs.Refused.{IsFaultOfTokens, IsFaultOfGrammar, IsFaultOfRules, IsUnbuilt, IsFull, IsRefused}
-use Rattle.unit_compile.specs.Refused.{tokens, grammar, rules, unbuilt, full, ComesFor}
+use Rattle.unit_compile.specs.Refused.{IsFaultOfTokens, IsFaultOfGrammar, IsFaultOfRules, IsUnfit, IsFull, IsRefused}
+use Rattle.unit_compile.specs.Refused.{tokens, grammar, rules, unfit, full, ComesFor}
 
 abbrev pub OneSplit : Type 0
 OneSplit = (text : List ℕ) (ts others : List Token) → Splits 0 text ts → Splits 0 text others → ts ≡ others
@@ -49,6 +49,9 @@ broken_of text r h = record { ts = h.tokens; raw = h.raw; split = h.split; writt
 
 none_some : (o : Option UnitError) (fault : UnitError) → o ≡ None → o ≡ Some fault → ⊥
 none_some o fault p q = cc
+
+no_refusal : (o : Option Refusal) (r : Refusal) → o ≡ None → o ≡ Some r → ⊥
+no_refusal o r p q = cc
 
 one_some : (o : Option Refusal) (due r : Refusal) → o ≡ Some due → o ≡ Some r → r ≡ due
 one_some o due r p q = cc
@@ -92,10 +95,16 @@ module _ (one_split : OneSplit) (not_both : NotBoth) (one_fault : OneFault) (one
       same_fault : {a b : UnitError} (o : Option UnitError) → o ≡ Some a → o ≡ Some b → a ≡ b
       same_fault o p q = cc
 
-  built_or_not : (unit other : PslUnit) → StandsForUnit text unit → StandsForUnit text other → AreBuilt unit
-      → ¬ AreBuilt other → ⊥
-  built_or_not unit other s t built not_built =
-      not_built (subst (λ (u : PslUnit). AreBuilt u) (one_unit text unit other s t) built)
+  unfit_as : (unit : PslUnit) (r : Refusal) (h : IsUnfit text r) → StandsForUnit text unit
+      → first_unfit 1 unit.directives ≡ Some r
+  unfit_as unit r h s =
+      subst (λ (u : PslUnit). first_unfit 1 u.directives ≡ Some r) (one_unit text h.unit unit h.stands s) h.first
+
+  built_or_not : (unit : PslUnit) (r : Refusal) → StandsForUnit text unit → AreBuilt unit → IsUnfit text r → ⊥
+  built_or_not unit r s built h = no_refusal (first_unfit 1 unit.directives) r built (unfit_as unit r h s)
+
+  same_unfit : (due r : Refusal) → IsUnfit text due → IsUnfit text r → r ≡ due
+  same_unfit due r h g = one_some (first_unfit 1 h.unit.directives) due r h.first (unfit_as h.unit r g h.stands)
 
   full_as : (unit : PslUnit) (r : Refusal) (h : IsFull text r) → StandsForUnit text unit
       → first_full 1 unit.directives ≡ Some r
@@ -110,52 +119,49 @@ module _ (one_split : OneSplit) (not_both : NotBoth) (one_fault : OneFault) (one
   after_tokens due r h (tokens g) = inr (inl (same_token_fault due r h g))
   after_tokens due r h (grammar g) = absurd (split_faultless g.tokens due g.split h)
   after_tokens due r h (rules g) = absurd (split_faultless g.tokens due g.split h)
-  after_tokens due r h (unbuilt g) = absurd (split_faultless g.stands.tokens due g.stands.split h)
+  after_tokens due r h (unfit g) = absurd (split_faultless g.stands.tokens due g.stands.split h)
   after_tokens due r h (full g) = absurd (split_faultless g.stands.tokens due g.stands.split h)
 
   after_grammar : (due r : Refusal) → IsFaultOfGrammar text due → IsRefused text r → ComesFor text due r
   after_grammar due r h (tokens g) = absurd (split_faultless h.tokens r h.split g)
   after_grammar due r h (grammar g) = inr (inr (h, g))
   after_grammar due r h (rules g) = absurd (written_faultless due (broken_of text r g) h)
-  after_grammar due r h (unbuilt g) = absurd (written_faultless due (written_of text g.unit g.stands) h)
+  after_grammar due r h (unfit g) = absurd (written_faultless due (written_of text g.unit g.stands) h)
   after_grammar due r h (full g) = absurd (written_faultless due (written_of text g.unit g.stands) h)
 
   after_rules : (due r : Refusal) → IsFaultOfRules text due → IsRefused text r → ComesFor text due r
   after_rules due r h (tokens g) = absurd (split_faultless h.tokens r h.split g)
   after_rules due r h (grammar g) = absurd (written_faultless r (broken_of text due h) g)
   after_rules due r h (rules g) = inr (inl (same_rule due r h g))
-  after_rules due r h (unbuilt g) = absurd (lawful_unbroken g.unit due g.stands h)
+  after_rules due r h (unfit g) = absurd (lawful_unbroken g.unit due g.stands h)
   after_rules due r h (full g) = absurd (lawful_unbroken g.unit due g.stands h)
 
-  after_unbuilt : (due r : Refusal) → IsUnbuilt text due → IsRefused text r → ComesFor text due r
-  after_unbuilt due r h (tokens g) = absurd (split_faultless h.stands.tokens r h.stands.split g)
-  after_unbuilt due r h (grammar g) = absurd (written_faultless r (written_of text h.unit h.stands) g)
-  after_unbuilt due r h (rules g) = absurd (lawful_unbroken h.unit r h.stands g)
-  after_unbuilt due r h (unbuilt g) = inr (inl (g.told ∙ sym h.told))
-  after_unbuilt due r h (full g) = absurd (built_or_not g.unit h.unit g.stands h.stands g.built h.unbuilt)
+  after_unfit : (due r : Refusal) → IsUnfit text due → IsRefused text r → ComesFor text due r
+  after_unfit due r h (tokens g) = absurd (split_faultless h.stands.tokens r h.stands.split g)
+  after_unfit due r h (grammar g) = absurd (written_faultless r (written_of text h.unit h.stands) g)
+  after_unfit due r h (rules g) = absurd (lawful_unbroken h.unit r h.stands g)
+  after_unfit due r h (unfit g) = inr (inl (same_unfit due r h g))
+  after_unfit due r h (full g) = absurd (built_or_not g.unit due g.stands g.built h)
 
   after_full : (due r : Refusal) → IsFull text due → IsRefused text r → ComesFor text due r
   after_full due r h (tokens g) = absurd (split_faultless h.stands.tokens r h.stands.split g)
   after_full due r h (grammar g) = absurd (written_faultless r (written_of text h.unit h.stands) g)
   after_full due r h (rules g) = absurd (lawful_unbroken h.unit r h.stands g)
-  after_full due r h (unbuilt g) = absurd (built_or_not h.unit g.unit h.stands g.stands h.built g.unbuilt)
+  after_full due r h (unfit g) = absurd (built_or_not h.unit r h.stands h.built g)
   after_full due r h (full g) = inr (inl (same_full due r h g))
 
   pub one_refusal : (due r : Refusal) → IsRefused text due → IsRefused text r → ComesFor text due r
   one_refusal due r (tokens h) g = after_tokens due r h g
   one_refusal due r (grammar h) g = after_grammar due r h g
   one_refusal due r (rules h) g = after_rules due r h g
-  one_refusal due r (unbuilt h) g = after_unbuilt due r h g
+  one_refusal due r (unfit h) g = after_unfit due r h g
   one_refusal due r (full h) g = after_full due r h g
 
   pub not_accepted : (r : Refusal) → IsRefused text r → IsAccepted text → ⊥
   not_accepted r (tokens h) a = split_faultless a.stands.tokens r a.stands.split h
   not_accepted r (grammar h) a = written_faultless r (written_of text a.unit a.stands) h
   not_accepted r (rules h) a = lawful_unbroken a.unit r a.stands h
-  not_accepted r (unbuilt h) a = built_or_not a.unit h.unit a.stands h.stands a.built h.unbuilt
+  not_accepted r (unfit h) a = built_or_not a.unit r a.stands a.built h
   not_accepted r (full h) a =
       let some : first_full 1 a.unit.directives ≡ Some r = full_as a.unit r h a.stands in
-      absurd (no_full (first_full 1 a.unit.directives) a.within some)
-    where
-      no_full : (o : Option Refusal) → o ≡ None → o ≡ Some r → ⊥
-      no_full o p q = cc
+      absurd (no_refusal (first_full 1 a.unit.directives) r a.within some)

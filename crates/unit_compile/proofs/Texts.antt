@@ -1,6 +1,6 @@
 -- From what each part of the front end says to the modules of a text, or why there are none.
-use Rattle.std.proofs.Common.{◌≡◌, ◌≢◌, ◌⊎◌, inl, inr, ℕ, Option, None, Some, List, map, Result, Ok, Err, IfOk, IfErr}
-use Rattle.std.proofs.Common.{OnOk, refl, ap, sym, ◌∙◌}
+use Rattle.std.proofs.Common.{◌≡◌, ◌≢◌, ◌⊎◌, inl, inr, ℕ, None, Some, List, map, Result, Ok, Err, IfOk, IfErr}
+use Rattle.std.proofs.Common.{OnOk, ap, ◌∙◌}
 use Rattle.std.specs.List.{AllPairs}
 use Rattle.psl_lexer.specs.declared.kinds.Token.{Token}
 use Rattle.psl_lexer.specs.declared.kinds.LexError.{LexError}
@@ -24,8 +24,8 @@ use Rattle.psl_units.specs.StandsForUnit.{StandsForUnit}
 use Rattle.psl_units.specs.Unit.{unit_for}
 use Rattle.unit_compile.specs.Offsets.{token_refusal, grammar_refusal, rule_refusal}
 use Rattle.unit_compile.specs.Built.{AreBuilt, first_full}
-use Rattle.unit_compile.specs.Made.{IsAccepted, AreMade, AreModulesOf}
-use Rattle.unit_compile.specs.Refused.{IsRefused, tokens, grammar, rules, unbuilt, full}
+use Rattle.unit_compile.specs.Made.{AreMade, AreModulesOf}
+use Rattle.unit_compile.specs.Refused.{IsRefused, tokens, grammar, rules, unfit, full}
 use Rattle.unit_compile.specs.inner.Unmade.{IsUncompiled}
 
 abbrev pub IsRight : (text : List ℕ) → Refusal → Type 0
@@ -80,7 +80,7 @@ rule_fault text ts raw error r split written (inr first) told =
 module _ (text : List ℕ) (unit : PslUnit) (stands : StandsForUnit text unit) where
   uncompiled : (r : Refusal) → IsUncompiled unit r → IsRight text r
   uncompiled r (inl memory) = inl memory
-  uncompiled r (inr (inl h)) = inr (unbuilt (record { unit = unit; stands = stands; unbuilt = h.0; told = h.1 }))
+  uncompiled r (inr (inl h)) = inr (unfit (record { unit = unit; stands = stands; first = h }))
   uncompiled r (inr (inr h)) = inr (full (record { unit = unit; stands = stands; built = h.0; first = h.1 }))
 
   module _ {T : Type 0} (plain : T → List Module) where

@@ -1,6 +1,7 @@
 -- Why a text has no modules. The reasons stand in the order in which they are looked for, and each presupposes that
--- none before it applies: the first fault of the tokens, a fault of the grammar, the first broken rule, a directive
--- that isn't built, and the first directive whose checker would have too many bits of registers.
+-- none before it applies: the first fault of the tokens, a fault of the grammar, the first broken rule, the first
+-- directive that is outside the simple subset or isn't built, and the first directive whose checker would have too many
+-- bits of registers.
 --     IsRefused text r         r is told for such a reason
 --     ComesFor text due r      r may be answered where `due` is told for such a reason
 use Rattle.std.specs.Prelude.{◌≡◌, ◌≢◌, ◌⊎◌, ℕ, Some, List}
@@ -17,11 +18,11 @@ use Rattle.unit_rules.specs.declared.errors.UnitError.{UnitError}
 use Rattle.unit_rules.specs.Source.{source}
 use Rattle.unit_rules.specs.Limits.{refusal}
 use Rattle.psl_model.specs.declared.refusals.Refusal.{Refusal}
-use Rattle.psl_model.specs.declared.refusals.Refusal.TheVariants.{Unbuilt, OutOfMemory}
+use Rattle.psl_model.specs.declared.refusals.Refusal.TheVariants.{OutOfMemory}
 use Rattle.psl_model.specs.Unit.{PslUnit}
 use Rattle.psl_units.specs.StandsForUnit.{StandsForUnit}
 use Rattle.unit_compile.specs.Offsets.{token_refusal, grammar_refusal, rule_refusal}
-use Rattle.unit_compile.specs.Built.{AreBuilt, first_full}
+use Rattle.unit_compile.specs.Built.{AreBuilt, first_unfit, first_full}
 
 pub record IsFaultOfTokens (text : List ℕ) (r : Refusal) : Type 0 where
   pub fault : LexError
@@ -48,11 +49,10 @@ pub record IsFaultOfRules (text : List ℕ) (r : Refusal) : Type 0 where
   pub first : refusal (source text tokens) raw ≡ Some fault
   pub told : r ≡ rule_refusal text tokens fault
 
-pub record IsUnbuilt (text : List ℕ) (r : Refusal) : Type 0 where
+pub record IsUnfit (text : List ℕ) (r : Refusal) : Type 0 where
   pub unit : PslUnit
   pub stands : StandsForUnit text unit
-  pub unbuilt : ¬ AreBuilt unit
-  pub told : r ≡ Unbuilt
+  pub first : first_unfit 1 unit.directives ≡ Some r
 
 pub record IsFull (text : List ℕ) (r : Refusal) : Type 0 where
   pub unit : PslUnit
@@ -64,7 +64,7 @@ pub data IsRefused (text : List ℕ) (r : Refusal) : Type 0 where
   tokens : IsFaultOfTokens text r → IsRefused text r
   grammar : IsFaultOfGrammar text r → IsRefused text r
   rules : IsFaultOfRules text r → IsRefused text r
-  unbuilt : IsUnbuilt text r → IsRefused text r
+  unfit : IsUnfit text r → IsRefused text r
   full : IsFull text r → IsRefused text r
 
 -- the refusal itself, or another fault of the grammar; want of memory may come in place of any

@@ -1,6 +1,6 @@
 //! The checkers of a unit.
 
-ghost use Rattle.std.specs.Prelude.{◌≡◌, ◌<◌, ◌≤◌, ◌+◌, ◌^◌, ◌++◌, ◌∷◌, [], None, ℕ, All, IsTrue};
+ghost use Rattle.std.specs.Prelude.{◌≡◌, ◌<◌, ◌≤◌, ◌+◌, ◌^◌, ◌++◌, ◌∷◌, [], None, Some, ℕ, All};
 ghost use Rattle.std.specs.Prelude.{IfOk, IfErr, OnOk, length, map, slice_index_or};
 ghost use Rattle.psl_model.specs.declared.units.Directive.{Directive};
 ghost use Rattle.psl_model.specs.UnitView.{unit_of, directive_of};
@@ -8,27 +8,37 @@ ghost use Rattle.property_circuits.specs.Counts.{register_limit};
 ghost use Rattle.verilog_text.specs.View.{module_of};
 ghost use Rattle.mbac_compile.specs.Built.{IsBuilt};
 ghost use Rattle.mbac_compile.specs.Units.{IsWellNamed, IsWellWorded, IsWellFormed};
-ghost use Rattle.unit_compile.specs.Built.{are_built, AreBuilt, bits_of, first_full};
+ghost use Rattle.unit_compile.specs.Built.{AreBuilt, bits_of, unfit_refusal, first_unfit, first_full};
 ghost use Rattle.unit_compile.specs.Made.{IsMade, AreMade};
 ghost use Rattle.unit_compile.specs.inner.Unmade.{HasOneMore, IsUnmade, IsUnfilled, IsUncompiled};
 
 use crate::refusals::check_refusal;
-use mbac_compile::{Checker, checker_of_directive, is_built};
+use mbac_compile::{Checker, check_form, checker_of_directive};
 use psl_model::{Directive, PslUnit, Refusal};
 use std::alloc::Global;
 use verilog_text::Module;
 
-/// Whether checkers are made of all of these directives.
-#[tactic(auto, using(crate::proofs::Loops::built_more, crate::proofs::Loops::built_not, crate::proofs::Loops::built_whole))]
-fn are_built(directives: &[Directive]) -> bool
-    ensures { result ≡ are_built (map directive_of directives.now) }
+/// Whether checkers are made of directives of this form, and if not, why.
+fn check_directive(number: u32, directive: &Directive) -> Result<(), Refusal>
+    ensures fit { OnOk result (unfit_refusal number (directive_of directive.now) ≡ None) }
+    ensures unfit { IfErr result (λ r. unfit_refusal number (directive_of directive.now) ≡ Some r) }
 {
-    for directive in directives {
-        if !is_built(&directive.formula) {
-            return false;
-        }
+    match check_form(&directive.formula) {
+        Ok(()) => Ok(()),
+        Err(error) => Err(check_refusal(number, error)),
     }
-    true
+}
+
+/// Whether checkers are made of directives of all of these forms, and if not, why. It takes no memory.
+fn check_forms(directives: &[Directive]) -> Result<(), Refusal>
+    requires few { length directives.now + 1 < 2 ^ 32 }
+    ensures fit { OnOk result (first_unfit 1 (map directive_of directives.now) ≡ None) }
+    ensures unfit { IfErr result (λ r. first_unfit 1 (map directive_of directives.now) ≡ Some r) }
+{
+    for at in 0..directives.len() {
+        check_directive(at as u32 + 1, &directives[at])?;
+    }
+    Ok(())
 }
 
 /// The checker of a directive, which is built, by its place in the unit.
@@ -106,7 +116,8 @@ fn built_modules(
     Ok(modules)
 }
 
-/// The checkers of a unit, one for each directive, in their order. Where some directive isn't built none is made.
+/// The checkers of a unit, one for each directive, in their order. Where the form of some directive is refused none is
+/// made.
 pub(crate) fn modules_of(alloc: Global, unit: &PslUnit) -> Result<Vec<Module>, Refusal>
     requires names { IsWellNamed (unit_of unit.now) }
     requires words { All (λ (d : Directive). IsWellWorded (directive_of d)) unit.now.directives }
@@ -120,8 +131,6 @@ pub(crate) fn modules_of(alloc: Global, unit: &PslUnit) -> Result<Vec<Module>, R
     ensures refused { IfErr result (IsUncompiled (unit_of unit.now)) }
 {
     let directives = unit.directives.as_slice();
-    if !are_built(directives) {
-        return Err(Refusal::Unbuilt);
-    }
+    check_forms(directives)?;
     built_modules(alloc, unit, directives)
 }

@@ -94,6 +94,10 @@ pub(crate) fn check_refusal(number: u32, error: CheckError) -> Refusal
     ensures { result ≡ check_refusal number error }
 {
     match error {
+        CheckError::Subset(rule) => Refusal::Subset {
+            directive: number,
+            rule: rule.number,
+        },
         CheckError::Unbuilt => Refusal::Unbuilt,
         CheckError::Circuit(error) => circuit_refusal(number, error),
     }

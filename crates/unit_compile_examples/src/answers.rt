@@ -5,7 +5,7 @@ use std::alloc::Global;
 use std::test::Fail;
 use unit_compile::modules;
 
-static REFUSED: [(&[u8], Refusal); 16] = [
+static REFUSED: [(&[u8], Refusal); 18] = [
     (b"", Refusal::Syntax { offset: 0 }),
     (b"vunit u { assert always", Refusal::Syntax { offset: 23 }),
     (
@@ -46,7 +46,19 @@ static REFUSED: [(&[u8], Refusal); 16] = [
     ),
     (b"vunit u { assert {a;b}; }", Refusal::Unbuilt),
     (
-        b"vunit u { assert a; assert next a; assert b; }",
+        b"vunit u { assert a; assert next_e[1:2](a); assert b; }",
+        Refusal::Unbuilt,
+    ),
+    (
+        b"vunit u { assert a; assert a until (always b); assert {a;b}; }",
+        Refusal::Subset {
+            directive: 2,
+            rule: 7,
+        },
+    ),
+    // Of two directives the first is told, whatever stands against it.
+    (
+        b"vunit u { assert {a;b}; assert !(always a); }",
         Refusal::Unbuilt,
     ),
     (
@@ -60,7 +72,7 @@ static REFUSED: [(&[u8], Refusal); 16] = [
     (b"vunit u { } ;", Refusal::Syntax { offset: 12 }),
 ];
 
-static ACCEPTED: [(&[u8], usize); 6] = [
+static ACCEPTED: [(&[u8], usize); 7] = [
     (b"vunit u { }", 0),
     (b"vunit u { assert always a; }", 1),
     (
@@ -68,6 +80,10 @@ static ACCEPTED: [(&[u8], usize); 6] = [
         3,
     ),
     (b"vunit u { property p = always a; assert p; assert p; }", 2),
+    (
+        b"vunit u { assert always (a -> next! b); assert a until_ b; assert next_a[1:3](c); }",
+        3,
+    ),
     (
         b"vunit u { wire [3:0] cnt; assert always !(cnt + 1 == 0); }",
         1,
@@ -136,5 +152,39 @@ fn a_unit_has_256_directives_at_most(rt: HostRuntime) -> Result<(), Fail> {
     let text = repeated(rt.alloc(), b"vunit u {", b" assert a;", 257, b" }")?;
     let refusal = Refusal::TooManyDirectives { offset: 2570 };
     assert!(rt; is_refused(rt.alloc(), &text, &refusal));
+    Ok(())
+}
+
+/// Sixteen `next`, one in the other, of which the front has the first, and an end.
+fn nested_next(alloc: Global, front: &[u8], end: &[u8]) -> Result<Vec<u8>, Fail> {
+    let mut text = repeated(alloc, front, b"next[4096](", 15, b"b")?;
+    for _ in 0..16 {
+        text.push(b')')?;
+    }
+    text.extend_from_slice(end)?;
+    Ok(text)
+}
+
+#[test]
+fn a_checker_has_65536_registers_at_most(rt: HostRuntime) -> Result<(), Fail> {
+    let text = nested_next(rt.alloc(), b"vunit u { assert next[4095](", b"; }")?;
+    assert!(rt; is_accepted(rt.alloc(), &text, 1));
+    let text = nested_next(rt.alloc(), b"vunit u { assert next[4096](", b"; }")?;
+    let refusal = Refusal::TooManyRegisters {
+        directive: 1,
+        count: 65_537,
+    };
+    assert!(rt; is_refused(rt.alloc(), &text, &refusal));
+    Ok(())
+}
+
+#[test]
+fn the_forms_of_directives_come_before_their_registers(rt: HostRuntime) -> Result<(), Fail> {
+    let text = nested_next(
+        rt.alloc(),
+        b"vunit u { assert next[4096](",
+        b"; assert {a;b}; }",
+    )?;
+    assert!(rt; is_refused(rt.alloc(), &text, &Refusal::Unbuilt));
     Ok(())
 }

@@ -16,5 +16,6 @@ circuit_refusal number (circuit.TooManySteps count) = refusal.TooManySteps numbe
 circuit_refusal number circuit.OutOfMemory = refusal.OutOfMemory
 
 abbrev pub check_refusal : (number : ℕ) → CheckError → Refusal
+check_refusal number (check.Subset rule) = refusal.Subset number rule.number
 check_refusal number check.Unbuilt = refusal.Unbuilt
 check_refusal number (check.Circuit error) = circuit_refusal number error

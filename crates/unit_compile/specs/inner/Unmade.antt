@@ -1,11 +1,11 @@
 -- What is made of a unit's directives, and why there is no more.
 use Rattle.std.specs.Prelude.{◌≡◌, ◌⊎◌, ◌<◌, ℕ, Some, List, [], ◌∷◌, ◌++◌}
 use Rattle.psl_model.specs.declared.refusals.Refusal.{Refusal}
-use Rattle.psl_model.specs.declared.refusals.Refusal.TheVariants.{TooManyRegisters, Unbuilt, OutOfMemory}
+use Rattle.psl_model.specs.declared.refusals.Refusal.TheVariants.{TooManyRegisters, OutOfMemory}
 use Rattle.psl_model.specs.Unit.{PslUnit, Directive}
 use Rattle.property_circuits.specs.Counts.{register_limit, told}
 use Rattle.verilog_text.specs.Module.{Module}
-use Rattle.unit_compile.specs.Built.{AreBuilt, bits_of, first_full}
+use Rattle.unit_compile.specs.Built.{AreBuilt, bits_of, first_unfit, first_full}
 use Rattle.unit_compile.specs.Made.{IsMade}
 
 -- the checker of the directive with this number stands behind the others
@@ -27,5 +27,5 @@ abbrev pub IsUnfilled : List Directive → Refusal → Type 0
 IsUnfilled directives r = (r ≡ OutOfMemory) ⊎ (first_full 1 directives ≡ Some r)
 
 abbrev pub IsUncompiled : PslUnit → Refusal → Type 0
-IsUncompiled unit r = (r ≡ OutOfMemory) ⊎ ((¬ AreBuilt unit) × (r ≡ Unbuilt))
+IsUncompiled unit r = (r ≡ OutOfMemory) ⊎ (first_unfit 1 unit.directives ≡ Some r)
     ⊎ (AreBuilt unit × (first_full 1 unit.directives ≡ Some r))

@@ -1,4 +1,4 @@
-use Rattle.std.proofs.Common.{ℕ, List, length, map}
+use Rattle.std.proofs.Common.{ℕ, List, length, map, ◌∙◌}
 use Rattle.psl_model.specs.Formula.{Formula}
 use Rattle.psl_model.specs.Uses.{formula_uses, used_places}
 use Rattle.psl_meaning.specs.Violation.{WeaklyViolates, Violates}
@@ -7,11 +7,11 @@ use Rattle.psl_rewrite.specs.Meaning.{named}
 use Rattle.psl_rewrite.specs.SameMeaning.{MeanTheSame}
 use Rattle.port_formulas.specs.Chosen.{chosen, position_in, UsesOnly}
 use Rattle.port_formulas.specs.Over.{over}
-use Rattle.mbac_compile.specs.Built.{IsBuilt}
+use Rattle.simple_subset.specs.Subset.{InSubset}
 use Rattle.mbac_compile.specs.Units.{expression_parentheses_limit}
-use Rattle.mbac_compile.proofs.Built.{base_built, built_named, in_subset}
+use Rattle.mbac_compile.proofs.Built.{base_built, same_built}
 use Rattle.mbac_compile.proofs.Guards.{has_guards}
-use Rattle.mbac_compile.proofs.Alike.{weakly_same, wholly_same}
+use Rattle.mbac_compile.proofs.Alike.{weakly_same, wholly_same, some_mapped}
 use Rattle.mbac_compile.proofs.laws.a_built_formula_reads_as_its_base_form.Goals as goal
 
 pub returns-clause-guards : goal.returns-clause-guards
@@ -22,7 +22,7 @@ returns-clause-guards c widths f built has =
     c.used_places_are_those_of_the_used_signals.ensures.enough (length widths) f
     (λ place used. c.an_allowed_formula_uses_signals_of_its_table.ensures widths limit f place has used) in
     has_guards (chosen places widths) (base_form_of (over places f))
-    (base_built (over places f) (built_named (position_in places) f built))
+    (base_built (base_form_of (over places f)) (same_built (position_in places) f ∙ built.form))
     (c.a_base_form_keeps_the_conditions.ensures.expressions (over places f) (chosen places widths) limit
     (c.a_formula_over_its_signals_keeps_the_conditions.ensures.expressions places widths limit f uses has))
 
@@ -34,14 +34,15 @@ returns-clause-reads c widths f built has =
     c.used_places_are_those_of_the_used_signals.ensures.enough (length widths) f
     (λ place used. c.an_allowed_formula_uses_signals_of_its_table.ensures widths expression_parentheses_limit f place
     has used) in
-    let inner_built : IsBuilt inner = built_named (position_in places) f built in
+    let simple : InSubset inner =
+    c.a_formula_over_its_signals_keeps_the_conditions.ensures.rules places f ∙ built.simple in
     let same : MeanTheSame (named (base_form_of inner)) inner =
-    c.a_base_form_keeps_the_meaning.ensures inner (in_subset inner inner_built) in
+    c.a_base_form_keeps_the_meaning.ensures inner simple in
     let law = c.a_formula_over_its_signals_is_violated_alike.ensures in
     record {
       fits = λ values fit. c.chosen_values_fit.ensures places widths values fit;
       weakly = λ trace fit. weakly_same (chosen places widths) inner same (WeaklyViolates widths f trace)
           (map (chosen places) trace) (law.weakly places widths f trace uses);
-      whole = λ trace fit. wholly_same (chosen places widths) inner same inner_built (Violates widths f trace)
-          (map (chosen places) trace) (law.whole places widths f trace uses);
+      whole = λ trace some fit. wholly_same (chosen places widths) inner same (Violates widths f trace)
+          (map (chosen places) trace) (some_mapped (chosen places) trace some) (law.whole places widths f trace uses);
     }

@@ -6,7 +6,7 @@ use Rattle.circuit_core.specs.Growth.{Grows}
 use Rattle.circuit_core.specs.Run.{Inputs, Run, IsRunOf}
 use Rattle.property_circuits.specs.Counts.{registers_of}
 use Rattle.property_circuits.specs.Starts.{IsCheck}
-use Rattle.property_circuits.proofs.Growing.{bits_are, finished, done}
+use Rattle.property_circuits.proofs.Growing.{finished, done}
 use Rattle.property_circuits.proofs.Judging.{built_obliges}
 use Rattle.property_circuits.proofs.Rising.{Persists, WeakIsFull, Whole, rises, ends}
 use Rattle.property_circuits.proofs.circuits.whole_check.Goals as goal
@@ -76,4 +76,4 @@ returns-clause-bits c =
     c.in_ok-start.ensures.grows c.in_ok-check.ensures.grows) c.in_ok-out.ensures.grows in
     let empty : m0.registers ≡ [] = ap (λ m. m.registers) c.in_ok-net.ensures in
     let both = done m0 m3 m4 (1 + k + 0) c.in_ok-out.out.0 empty grows c.finish.ensures.output in
-    omega (arith, bits_are m4 c.a_netlist_is_well_made.ensures, both.1)
+    omega (arith, c.each_register_has_one_bit.ensures m4 c.a_netlist_is_well_made.ensures, both.1)

@@ -1,8 +1,11 @@
-use Rattle.std.proofs.Common.{◌≡◌, ℕ, ◌+◌, ap, subst, arith}
+use Rattle.std.proofs.Common.{◌≡◌, ℕ, ◌+◌, refl, sym, ap, subst, arith}
+use Rattle.psl_model.specs.View.{expr_of}
 use Rattle.psl_rewrite.specs.View.{base_of}
 use Rattle.psl_rewrite.specs.Base as base
 use Rattle.circuit_core.specs.Growth.{Grows}
+use Rattle.property_circuits.specs.Conditions.{IsBuilt}
 use Rattle.property_circuits.specs.Counts.{registers_of}
+use Rattle.property_circuits.proofs.Gating.{through_gate, grows_through}
 use Rattle.property_circuits.proofs.laws.+check_variant.Goals as goal
 
 pub returns-in_ok-check-in-And-clause-grows : goal.returns-in_ok-check-in-And-clause-grows
@@ -36,3 +39,130 @@ returns-in_ok-each-in-Always-clause-grows t c =
     let P : ℕ → Type 0 = λ n. Grows m0 m2 n in
     let counted : 1 + registers_of f ≡ registers_of (base_of c.args.base.now) = omega (arith, ap registers_of is) in
     subst P counted whole
+
+-- ---- Next
+
+pub returns-in_ok-check-in-Next-clause-grows : goal.returns-in_ok-check-in-Next-clause-grows
+returns-in_ok-check-in-Next-clause-grows t c =
+    let f = base_of c.get-in-Next.result.now in
+    let s = c.in-Next.strong in
+    let k = c.in-Next.count in
+    let is : base_of c.args.base.now ≡ base.next s k f =
+    cc (ap base_of c.in-Next.is, c.get-in-Next.ensures.whole_tree) in
+    grows_through c.args.net.now c.later_starts.new.net c.check_variant-in-Next.new.net c.join_waiting.new.net k (registers_of f)
+    (registers_of (base_of c.args.base.now)) c.growths_join.ensures.twice (sym (ap registers_of is))
+    c.in_ok-gate-in-Next.ensures.grows c.in_ok-each-in-Next.ensures.grows c.in_ok-check-in-Next.ensures.grows
+
+pub returns-in_ok-check-in-Next-clause-kept : goal.returns-in_ok-check-in-Next-clause-kept
+returns-in_ok-check-in-Next-clause-kept t c = (returns-in_ok-check-in-Next-clause-grows t c).kept
+
+pub returns-in_err-check-in-Next-clause-kept : goal.returns-in_err-check-in-Next-clause-kept
+returns-in_err-check-in-Next-clause-kept t c =
+    let join = c.extensions_join.ensures.twice in
+    join _ _ _ c.in_ok-gate-in-Next.ensures.kept (join _ _ _ c.in_ok-each-in-Next.ensures.kept
+    c.in_err-check-in-Next.ensures.kept)
+
+pub returns-in_ok-check-in-Next-clause-check : goal.returns-in_ok-check-in-Next-clause-check
+returns-in_ok-check-in-Next-clause-check t c =
+    let m0 = c.args.net.now in
+    let m1 = c.later_starts.new.net in
+    let f = base_of c.get-in-Next.result.now in
+    let s = c.in-Next.strong in
+    let k = c.in-Next.count in
+    let gate = c.in_ok-gate-in-Next in
+    let each = c.in_ok-each-in-Next in
+    let all = c.in_ok-check-in-Next in
+    let is : base.next s k f ≡ base_of c.args.base.now =
+    cc (ap base_of c.in-Next.is, c.get-in-Next.ensures.whole_tree) in
+    let built : IsBuilt f = subst IsBuilt (sym is) c.requires.built in
+    through_gate m1 c.check_variant-in-Next.new.net c.join_waiting.new.net m0.widths m1.widths s (base.next s k f) (base_of c.args.base.now) f
+    c.args.start.0 c.args.clear.0 gate.gate.go.0 gate.gate.pend.0 each.each.fail.0 each.each.pend.0
+    all.check.fail.0 all.check.pend.0
+    (λ inputs run h. gate.ensures.one inputs run h m0.widths s f refl built)
+    each.ensures.kept all.ensures.kept gate.ensures.kept.widths is each.ensures.check all.ensures.fails
+    all.ensures.pends
+
+-- ---- NextAll
+
+pub returns-in_ok-check-in-NextAll-clause-grows : goal.returns-in_ok-check-in-NextAll-clause-grows
+returns-in_ok-check-in-NextAll-clause-grows t c =
+    let f = base_of c.get-in-NextAll.result.now in
+    let s = c.in-NextAll.strong in
+    let low = c.in-NextAll.low in
+    let high = c.in-NextAll.high in
+    let is : base_of c.args.base.now ≡ base.next_all s low high f =
+    cc (ap base_of c.in-NextAll.is, c.get-in-NextAll.ensures.whole_tree) in
+    grows_through c.args.net.now c.later_starts-in-NextAll.new.net c.check_variant-in-NextAll.new.net c.join_waiting-in-NextAll.new.net high (registers_of f)
+    (registers_of (base_of c.args.base.now)) c.growths_join.ensures.twice (sym (ap registers_of is))
+    c.in_ok-gate-in-NextAll.ensures.grows c.in_ok-each-in-NextAll.ensures.grows c.in_ok-check-in-NextAll.ensures.grows
+
+pub returns-in_ok-check-in-NextAll-clause-kept : goal.returns-in_ok-check-in-NextAll-clause-kept
+returns-in_ok-check-in-NextAll-clause-kept t c = (returns-in_ok-check-in-NextAll-clause-grows t c).kept
+
+pub returns-in_err-check-in-NextAll-clause-kept : goal.returns-in_err-check-in-NextAll-clause-kept
+returns-in_err-check-in-NextAll-clause-kept t c =
+    let join = c.extensions_join.ensures.twice in
+    join _ _ _ c.in_ok-gate-in-NextAll.ensures.kept (join _ _ _ c.in_ok-each-in-NextAll.ensures.kept
+    c.in_err-check-in-NextAll.ensures.kept)
+
+pub returns-in_ok-check-in-NextAll-clause-check : goal.returns-in_ok-check-in-NextAll-clause-check
+returns-in_ok-check-in-NextAll-clause-check t c =
+    let m0 = c.args.net.now in
+    let m1 = c.later_starts-in-NextAll.new.net in
+    let f = base_of c.get-in-NextAll.result.now in
+    let s = c.in-NextAll.strong in
+    let low = c.in-NextAll.low in
+    let high = c.in-NextAll.high in
+    let gate = c.in_ok-gate-in-NextAll in
+    let each = c.in_ok-each-in-NextAll in
+    let all = c.in_ok-check-in-NextAll in
+    let is : base.next_all s low high f ≡ base_of c.args.base.now =
+    cc (ap base_of c.in-NextAll.is, c.get-in-NextAll.ensures.whole_tree) in
+    let built : IsBuilt (base.next_all s low high f) = subst IsBuilt (sym is) c.requires.built in
+    through_gate m1 c.check_variant-in-NextAll.new.net c.join_waiting-in-NextAll.new.net m0.widths m1.widths s (base.next_all s low high f) (base_of c.args.base.now) f
+    c.args.start.0 c.args.clear.0 gate.gate.go.0 gate.gate.pend.0 each.each.fail.0 each.each.pend.0
+    all.check.fail.0 all.check.pend.0
+    (λ inputs run h. gate.ensures.all inputs run h m0.widths s f built.1)
+    each.ensures.kept all.ensures.kept gate.ensures.kept.widths is each.ensures.check all.ensures.fails
+    all.ensures.pends
+
+-- ---- Until
+
+pub returns-in_ok-check-in-Until-clause-grows : goal.returns-in_ok-check-in-Until-clause-grows
+returns-in_ok-check-in-Until-clause-grows t c =
+    let f = base_of c.get-in-Until.result.now in
+    let s = c.in-Until.strong in
+    let e = expr_of c.in-Until.stop in
+    let is : base_of c.args.base.now ≡ base.until s f e =
+    cc (ap base_of c.in-Until.is, c.get-in-Until.ensures.whole_tree) in
+    grows_through c.args.net.now c.starts_until.new.net c.check_variant-in-Until.new.net c.join_waiting-in-Until.new.net 1 (registers_of f)
+    (registers_of (base_of c.args.base.now)) c.growths_join.ensures.twice (sym (ap registers_of is))
+    c.in_ok-gate-in-Until.ensures.grows c.in_ok-each-in-Until.ensures.grows c.in_ok-check-in-Until.ensures.grows
+
+pub returns-in_ok-check-in-Until-clause-kept : goal.returns-in_ok-check-in-Until-clause-kept
+returns-in_ok-check-in-Until-clause-kept t c = (returns-in_ok-check-in-Until-clause-grows t c).kept
+
+pub returns-in_err-check-in-Until-clause-kept : goal.returns-in_err-check-in-Until-clause-kept
+returns-in_err-check-in-Until-clause-kept t c =
+    let join = c.extensions_join.ensures.twice in
+    join _ _ _ c.in_ok-gate-in-Until.ensures.kept (join _ _ _ c.in_ok-each-in-Until.ensures.kept
+    c.in_err-check-in-Until.ensures.kept)
+
+pub returns-in_ok-check-in-Until-clause-check : goal.returns-in_ok-check-in-Until-clause-check
+returns-in_ok-check-in-Until-clause-check t c =
+    let m0 = c.args.net.now in
+    let m1 = c.starts_until.new.net in
+    let f = base_of c.get-in-Until.result.now in
+    let s = c.in-Until.strong in
+    let e = expr_of c.in-Until.stop in
+    let gate = c.in_ok-gate-in-Until in
+    let each = c.in_ok-each-in-Until in
+    let all = c.in_ok-check-in-Until in
+    let is : base.until s f e ≡ base_of c.args.base.now =
+    cc (ap base_of c.in-Until.is, c.get-in-Until.ensures.whole_tree) in
+    through_gate m1 c.check_variant-in-Until.new.net c.join_waiting-in-Until.new.net m0.widths m1.widths s (base.until s f e) (base_of c.args.base.now) f
+    c.args.start.0 c.args.clear.0 gate.gate.go.0 gate.gate.pend.0 each.each.fail.0 each.each.pend.0
+    all.check.fail.0 all.check.pend.0
+    (λ inputs run h. gate.ensures.gate inputs run h s f)
+    each.ensures.kept all.ensures.kept gate.ensures.kept.widths is each.ensures.check all.ensures.fails
+    all.ensures.pends

@@ -1,4 +1,4 @@
-use Rattle.std.proofs.Common.{◌≡◌, ◌+◌, ◌<◌, ◌^◌, map, length, arith}
+use Rattle.std.proofs.Common.{◌+◌, ◌<◌, ◌^◌, map, length, arith}
 use Rattle.std.proofs.lemmas.List.{length-map}
 use Rattle.psl_grammar.specs.UnitView.{unit_of as raw_unit_of}
 use Rattle.psl_model.specs.Unit.{PslUnit}

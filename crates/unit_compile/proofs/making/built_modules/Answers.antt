@@ -1,4 +1,4 @@
-use Rattle.std.proofs.Common.{◌≡◌, ℕ, List, length, map, ◌++◌, refl, sym, subst, arith, rules}
+use Rattle.std.proofs.Common.{◌≡◌, List, length, map, ◌++◌, refl, sym, subst, arith, rules}
 use Rattle.psl_model.specs.declared.units.Directive.{Directive}
 use Rattle.psl_model.specs.UnitView.{unit_of, directive_of}
 use Rattle.verilog_text.specs.declared.module.Module.{Module}

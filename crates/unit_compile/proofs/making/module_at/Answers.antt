@@ -1,4 +1,4 @@
-use Rattle.std.proofs.Common.{◌≡◌, ℕ, ◌+◌, arith}
+use Rattle.std.proofs.Common.{◌+◌, arith}
 use Rattle.psl_model.specs.UnitView.{directive_of}
 use Rattle.unit_compile.proofs.Unmade.{unmade_so}
 use Rattle.unit_compile.proofs.making.module_at.Goals as goal

@@ -1,9 +1,8 @@
-use Rattle.std.proofs.Common.{◌≡◌, inl, inr, false, true, List, All, length, refl, sym, subst, ap, ◌∙◌}
+use Rattle.std.proofs.Common.{List, All, sym, subst}
 use Rattle.psl_model.specs.declared.units.Directive.{Directive}
 use Rattle.psl_model.specs.UnitView.{unit_of, directive_of}
 use Rattle.mbac_compile.specs.Units.{IsWellWorded, IsWellFormed}
-use Rattle.unit_compile.specs.Built.{are_built}
-use Rattle.unit_compile.proofs.Loops.{plain, each_built}
+use Rattle.unit_compile.proofs.Loops.{each_built}
 use Rattle.unit_compile.proofs.making.modules_of.Goals as goal
 
 pub built_modules-requires-clause-words : goal.built_modules-requires-clause-words
@@ -18,5 +17,4 @@ built_modules-requires-clause-expressions c =
 
 pub built_modules-requires-clause-built : goal.built_modules-requires-clause-built
 built_modules-requires-clause-built c =
-    let yes : are_built (plain c.as_slice-directives.result.now) ≡ true = cc in
-    each_built c.as_slice-directives.result.now yes
+    each_built 1 c.as_slice-directives.result.now c.in_ok-check_forms.ensures.fit

@@ -1,0 +1,4 @@
+pub mod Bits
+pub mod Next
+pub mod Until
+pub mod inner

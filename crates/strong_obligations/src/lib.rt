@@ -1,0 +1,9 @@
+//! Gates: circuits that start a body later than they are started themselves, and tell what waits.
+#![tactic(auto)]
+
+mod chains;
+pub mod laws;
+mod starts;
+
+pub use chains::next_chain;
+pub use starts::{open_starts, until_gate};
