@@ -7,7 +7,7 @@ use Rattle.psl_model.specs.Limits.{unit_text_limit}
 use Rattle.mbac_io.specs.Device.{WhereTold, Keeps, TakesAll, TakesSome}
 use Rattle.mbac_top.specs.declared.outcome.Cause.{Cause}
 use Rattle.mbac_top.specs.declared.outcome.Cause.TheVariants.{Done, Usage, ReadFault, WriteFault, OutOfMemory}
-use Rattle.mbac_top.specs.declared.outcome.Cause.TheVariants.{InputTooLong, Unbuilt}
+use Rattle.mbac_top.specs.declared.outcome.Cause.TheVariants.{InputTooLong, Refused}
 use Rattle.mbac_top.specs.Words.{IsCompile, limit_of}
 use Rattle.mbac_top.specs.Words.Command.{compile}
 use Rattle.mbac_top.specs.Call.{Change, Call, Contents, MayHave}
@@ -69,7 +69,7 @@ why_unread input bytes may short Usage why = absurd why
 why_unread input bytes may short WriteFault why = absurd why
 why_unread input bytes may short (ReadFault slot) why = absurd why
 why_unread input bytes may short (InputTooLong slot) why = absurd why
-why_unread input bytes may short Unbuilt why = (bytes, may, short, why)
+why_unread input bytes may short (Refused r) why = (bytes, may, short, why)
 
 pub why_unread-error : {T : Type 0} (r : Result T Cause) (input : Change) (bytes : List ℕ) → MayHave input bytes →
     length bytes ≤ unit_text_limit →
@@ -111,7 +111,7 @@ refused call says OutOfMemory why = (compile, says)
 refused call says Usage why = absurd why
 refused call says WriteFault why = absurd why
 refused call says Done why = absurd why
-refused call says Unbuilt (bytes, may, short, why) = (
+refused call says (Refused r) (bytes, may, short, why) = (
   compile,
   (λ _. bytes),
   says,
@@ -129,17 +129,17 @@ written call says text (bytes, may, short, right) Done wrote = (
   (λ _. bytes),
   says,
   at_zero (λ slot. MayHave (call.slots slot) bytes) may,
-  (fits bytes short right.is_unit, (text, right, wrote)),
+  (fits bytes short right.1.made.accepted, (text, right, wrote)),
 )
 written call says text (bytes, may, short, right) WriteFault (part, rose) = (
   compile,
   (λ _. bytes),
   says,
   at_zero (λ slot. MayHave (call.slots slot) bytes) may,
-  (fits bytes short right.is_unit, (text, right, part), rose),
+  (fits bytes short right.1.made.accepted, (text, right, part), rose),
 )
 written call says text is Usage wrote = absurd wrote
 written call says text is (ReadFault slot) wrote = absurd wrote
 written call says text is (InputTooLong slot) wrote = absurd wrote
 written call says text is OutOfMemory wrote = absurd wrote
-written call says text is Unbuilt wrote = absurd wrote
+written call says text is (Refused r) wrote = absurd wrote

@@ -1,8 +1,4 @@
-mod FrontLemmas
-mod ThinReading
 mod Ending
 mod Pieces
 mod Due
-mod ThinNames
-mod ThinChecker
 mod Compiled

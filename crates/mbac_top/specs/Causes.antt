@@ -6,7 +6,7 @@ use Rattle.mbac_top.specs.declared.outcome.Cause.TheVariants.{InputTooLong}
 use Rattle.mbac_top.specs.Words.{Command, Says, IsCommand, slots_of, Reads, limit_of}
 use Rattle.mbac_top.specs.Words.Command.{compile}
 use Rattle.mbac_top.specs.Call.{Call, FaultRose, Writes, WritesPart, Contents, MayHave, Had}
-use Rattle.mbac_top.specs.Compile.{IsUnit, IsCompiledTo, IsRefusedUnit}
+use Rattle.mbac_top.specs.Compile.{IsUnit, IsCompiledTo, IsRefusedUnit, IsOtherFault}
 
 -- What a command makes of its slots, each of which is within its limit: one row a command.
 
@@ -20,6 +20,10 @@ IsTextFor compile bytes text = IsCompiledTo (bytes 0) text
 -- why it accepts nothing
 abbrev pub IsRefused : Command → Contents → Cause → Type 0
 IsRefused compile bytes refusal = IsRefusedUnit (bytes 0) refusal
+
+-- what it may answer in place of a refusal that is due
+abbrev pub IsAnsweredInstead : Command → Contents → (due answer : Cause) → Type 0
+IsAnsweredInstead compile bytes due answer = IsOtherFault (bytes 0) due answer
 
 -- What goes before: slots are read in order, each up to its limit.
 
@@ -74,14 +78,15 @@ abbrev pub slots_for : Command → Cause → ℕ
 slots_for command (InputTooLong slot) = suc slot
 slots_for command _ = slots_of command
 
-abbrev pub ComesFor : Command → (due answer : Cause) → Type 0
-ComesFor command due answer = (answer ≡ due)
+abbrev pub ComesFor : Command → Contents → (due answer : Cause) → Type 0
+ComesFor command bytes due answer = (answer ≡ due)
     ⊎ (answer ≡ OutOfMemory)
     ⊎ ((slot : ℕ) × (slot < slots_for command due) × (answer ≡ ReadFault slot))
     ⊎ ((due ≡ Done) × (answer ≡ WriteFault))
+    ⊎ IsAnsweredInstead command bytes due answer
 
 abbrev pub MeetsBytes : Call → (answer : Cause) → Type 0
 MeetsBytes call answer = (command : Command) (bytes : Contents) (due : Cause) →
     Says call.words command →
     ((slot : ℕ) → slot < slots_for command due → Had (call.slots slot) (bytes slot)) →
-    IsDue command bytes due → ComesFor command due answer
+    IsDue command bytes due → ComesFor command bytes due answer

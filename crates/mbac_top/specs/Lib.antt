@@ -3,5 +3,4 @@ pub mod Call
 pub mod Causes
 pub mod Compile
 pub mod Messages
-pub mod ThinForm
 pub mod inner

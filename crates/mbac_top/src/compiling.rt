@@ -1,24 +1,22 @@
-//! From the bytes of a unit to a checker text.
+//! From the bytes of a unit to the text of its checkers.
 
-ghost use Rattle.std.specs.Prelude.{IfOk, IfErr};
+ghost use Rattle.std.specs.Prelude.{◌≤◌, length, IfOk, IfErr};
+ghost use Rattle.psl_model.specs.Limits.{unit_text_limit};
 ghost use Rattle.mbac_top.specs.Compile.{IsCompiledTo};
 ghost use Rattle.mbac_top.specs.inner.Ending.{IsWhyUncompiled};
 
-use crate::checker::checker_text;
 use crate::outcome::Cause;
-use crate::thin_form;
+use crate::refusals::cause_of;
 use std::alloc::Global;
 
-/// The checker text of the unit that the bytes stand for, or why there is none.
+/// The text of the checkers of the unit that the bytes stand for, or why there is none.
 pub(crate) fn compile(alloc: Global, bytes: &[u8]) -> Result<Vec<u8>, Cause>
+    requires { length bytes.now ≤ unit_text_limit }
     ensures text { IfOk result (λ text. IsCompiledTo bytes.now text.items) }
     ensures cause { IfErr result (IsWhyUncompiled bytes.now) }
 {
-    let Some(form) = thin_form::read(bytes) else {
-        return Err(Cause::Unbuilt);
-    };
-    match checker_text(alloc, form.name, form.signal) {
+    match unit_compile::compile(alloc, bytes) {
         Ok(text) => Ok(text),
-        Err(_) => Err(Cause::OutOfMemory),
+        Err(refusal) => Err(cause_of(refusal)),
     }
 }

@@ -1,14 +1,12 @@
 //! The top call.
 #![tactic(auto)]
 
-mod checker;
 mod compiling;
 mod message;
+mod numbers;
 mod outcome;
+mod refusals;
 mod running;
-#[cfg(test)]
-mod tests;
-mod thin_form;
 mod words;
 
 pub use outcome::{Cause, Outcome};

@@ -1,5 +1,7 @@
 //! What a run of the program ends with.
 
+use psl_model::Refusal;
+
 /// Why a run ended as it did. Causes are passed by reference, so that one may hold a name.
 #[derive(Debug, Drop, PartialEq, Eq)]
 pub enum Cause {
@@ -13,8 +15,8 @@ pub enum Cause {
     OutOfMemory,
     /// The slot has more bytes than its limit.
     InputTooLong { slot: u32 },
-    /// The bytes are no unit that this compiler can compile yet.
-    Unbuilt,
+    /// A unit that isn't compiled, for this reason. Want of memory is no such reason: it is a cause of its own.
+    Refused(Refusal),
 }
 
 /// The exit status of the program, and its cause.

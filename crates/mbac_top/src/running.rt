@@ -14,6 +14,7 @@ use crate::outcome::{Cause, Outcome};
 use crate::words::compile_file;
 use mbac_io::{Inputs, ReadError, Sink, read_all, write_all};
 use std::alloc::Global;
+use unit_compile::laws::a_text_has_one_answer;
 
 /// The most bytes of a unit's text.
 const UNIT_TEXT_LIMIT: usize = 1_048_576;
@@ -65,6 +66,7 @@ pub fn run<I: Inputs, O: Sink, N: Sink>(
     ensures out_never_falls { O.faults out.old ≤ O.faults out.new }
     ensures notes_never_fall { N.faults notes.old ≤ N.faults notes.new }
 {
+    a_text_has_one_answer();
     let cause = answer(alloc, words, inputs, out);
     end(cause, notes)
 }
@@ -156,6 +158,6 @@ fn status(cause: &Cause) -> u8
         Cause::ReadFault { .. } => 3,
         Cause::WriteFault => 4,
         Cause::OutOfMemory => 5,
-        Cause::InputTooLong { .. } | Cause::Unbuilt => 6,
+        Cause::InputTooLong { .. } | Cause::Refused(_) => 6,
     }
 }

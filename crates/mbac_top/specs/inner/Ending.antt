@@ -1,12 +1,19 @@
 -- How the private parts of `run` end, each for slot 0 alone.
-use Rattle.std.specs.Prelude.{◌≡◌, ◌≢◌, ℕ, ◌<◌, ◌≤◌, List, length, Result, Ok, Err}
+use Rattle.std.specs.Prelude.{◌≡◌, ◌≢◌, ◌⊎◌, ℕ, ◌<◌, ◌≤◌, List, length, Result, Ok, Err}
+use Rattle.psl_model.specs.declared.refusals.Refusal.{Refusal}
+use Rattle.psl_model.specs.declared.refusals.Refusal.TheVariants as refusal
 use Rattle.psl_model.specs.Limits.{unit_text_limit}
 use Rattle.mbac_io.specs.Device.{TakesSome}
 use Rattle.mbac_top.specs.declared.outcome.Cause.{Cause}
 use Rattle.mbac_top.specs.declared.outcome.Cause.TheVariants.{Done, Usage, ReadFault, WriteFault, OutOfMemory}
-use Rattle.mbac_top.specs.declared.outcome.Cause.TheVariants.{InputTooLong}
+use Rattle.mbac_top.specs.declared.outcome.Cause.TheVariants.{InputTooLong, Refused}
 use Rattle.mbac_top.specs.Call.{Change, FaultRose, Writes, WritesPart, MayHave, IsLeftAlone}
 use Rattle.mbac_top.specs.Compile.{IsCompiledTo, IsRefusedUnit}
+
+-- the cause of a refusal: want of memory has one of its own
+abbrev pub IsCauseOf : Refusal → Cause → Type 0
+IsCauseOf r cause = ((r ≡ refusal.OutOfMemory) × (cause ≡ OutOfMemory))
+    ⊎ ((r ≢ refusal.OutOfMemory) × (cause ≡ Refused r))
 
 -- why bytes have no checker text
 abbrev pub IsWhyUncompiled : List ℕ → Cause → Type 0
@@ -29,7 +36,7 @@ IsWhyUnread input OutOfMemory = Unit {0}
 IsWhyUnread input Usage = ⊥
 IsWhyUnread input WriteFault = ⊥
 IsWhyUnread input Done = ⊥
-IsWhyUnread input refusal = HasShort input (λ bytes. IsRefusedUnit bytes refusal)
+IsWhyUnread input (Refused r) = HasShort input (λ bytes. IsRefusedUnit bytes (Refused r))
 
 -- how the writing of a text ends
 abbrev pub WritesText : Change → (text : List ℕ) → Cause → Type 0

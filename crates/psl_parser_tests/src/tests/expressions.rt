@@ -19,6 +19,7 @@ fn operators_bind_by_their_levels(rt: HostRuntime) {
         (b"|a", b"(| a)"),
         (b"^ ! a", b"(^ (! a))"),
         (b"!a + b", b"(+ (! a) b)"),
+        (b"a + !b", b"(+ a (! b))"),
         (b"a + b - c", b"(- (+ a b) c)"),
         (b"a << b + c", b"(<< a (+ b c))"),
         (b"a + b << c", b"(<< (+ a b) c)"),

@@ -83,6 +83,17 @@ fn stops_at_each_end(alloc: Global, text: &[u8], found: &[Token]) -> bool {
     true
 }
 
+// Whether a text is a unit, and the parser stops at the end of it wherever it is cut off before a token.
+fn is_unit_as_a_whole(alloc: Global, text: &[u8]) -> bool {
+    if text.len() > 1_048_576 {
+        return false;
+    }
+    match tokens(alloc, text) {
+        Err(_) => false,
+        Ok(found) => stops_at_each_end(alloc, text, &found) && fault_of(alloc, text).is_none(),
+    }
+}
+
 #[test]
 fn a_unit_that_is_cut_off_is_refused_at_its_end(rt: HostRuntime) -> Result<(), Fail> {
     let text = joined(
@@ -91,9 +102,33 @@ fn a_unit_that_is_cut_off_is_refused_at_its_end(rt: HostRuntime) -> Result<(), F
         b" property p = never {s|a}; L: assert always (a -> next_event(b)[2] !p until! y[3:0] ? c : d",
         b" abort b) report \"t\"; }",
     )?;
-    assert!(rt; text.len() < 1000);
-    let found = tokens(rt.alloc(), &text)?;
-    assert!(rt; stops_at_each_end(rt.alloc(), &text, &found));
-    assert_eq!(rt; fault_of(rt.alloc(), &text), None);
+    assert!(rt; is_unit_as_a_whole(rt.alloc(), &text));
+    Ok(())
+}
+
+#[test]
+fn a_unit_of_many_items_is_refused_at_its_end(rt: HostRuntime) -> Result<(), Fail> {
+    let mut text = b"// blocks of words on a line\nvunit line (dut) {".to_vec(rt.alloc())?;
+    for item in [
+        b" default clock = (posedge ck); wire [7:0] place; wire [3:0] left;".as_slice(),
+        b" sequence block = {begun; word[*4]; final};",
+        b" property quiet = always (used -> !free);",
+        b" slow: assert always (ask -> next_e![1:16](given)) report \"slow answer\";",
+        b" hold: assert always ((ask && !given) -> next ask);",
+        b" assert always ({block} |=> next_e[0:3](ready));",
+        b" assert never {given; given; !ask};",
+        b" assert always ({begun} |=> {word[*1:4]; final});",
+        b" assert always ({{word[=2]} within {begun; (!final)[*]; final}} |-> next fine);",
+        b" assert always (begun -> next_event!(final)(place == 8'd0));",
+        b" assert always (given -> (!wrong until ready)) abort clear;",
+        b" assert always (held -> (held until_ freed));",
+        b" assert always (told -> (ready before! go));",
+        b" assert quiet;",
+        b" assert always (left == 4'd15 -> next[2](left == 4'd0));",
+        b" }",
+    ] {
+        text.extend_from_slice(item)?;
+    }
+    assert!(rt; is_unit_as_a_whole(rt.alloc(), &text));
     Ok(())
 }

@@ -12,3 +12,6 @@ returns-in-ReadFault g c = rw (c.in-ReadFault.is, ← c.from.ensures) c.write_nu
 pub returns-in-InputTooLong : goal.returns-in-InputTooLong
 returns-in-InputTooLong g c =
     rw (c.in-InputTooLong.is, ← c.from-in-InputTooLong.ensures) c.write_numbered-in-InputTooLong.ensures
+
+pub returns-in-Refused : goal.returns-in-Refused
+returns-in-Refused g c = rw c.in-Refused.is c.write_refusal.ensures
