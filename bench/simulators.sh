@@ -1,6 +1,6 @@
 #!/usr/bin/env bash
 # Runs one checker on the same inputs by the cycle machine, by Icarus Verilog and by Verilator, and prints what a node
-# and cycle costs in each. The checker is made and printed by the product. All three must give the same answers.
+# and cycle costs in each. The product compiles the unit and prints the checker. All three must give the same answers.
 #   bench/simulators.sh          builds the program from the proved crates
 #   bench/simulators.sh --try    runs it unproved and built with checks, to try the script: its time means nothing
 # Wants iverilog, vvp, verilator and a C++ compiler.
@@ -11,26 +11,35 @@ room=$(mktemp -d)
 trap 'rm -rf "$room"' EXIT
 cycles=500
 
-# A copy of the repository with a program that makes the checker, prints it and runs it.
+# A unit of one assertion: 256 properties `always (cnt[i] -> cnt[j])`, each at two places of its own, joined by `&&`.
+unit() {
+    awk 'BEGIN {
+        print "vunit u {\n  wire [63:0] cnt;"
+        for (n = 0; n < 256; n++) {
+            from = n % 64; to = (int(n / 64) + from + 1) % 64
+            printf "  property p%d = always (cnt[%d] -> cnt[%d]);\n", n, from, to
+            all = all (n ? " && " : "") "p" n
+        }
+        print "  assert " all ";\n}" }'
+}
+
+# A copy of the repository with a program that compiles the unit, prints its checker and runs it.
 make_program() {
     mkdir "$room/repository"
     tar -C "$top" --exclude=.git --exclude=./crates/*/out -cf - . | tar -C "$room/repository" -xf -
     cd "$room/repository"
     local crate=crates/machine_bench
-    mkdir -p $crate/src $crate/proofs/running/{run,measured} $crate/proofs/formulas/+many
-    cp -r crates/compile_examples/specs $crate/specs
-    cp crates/compile_examples/proofs/PortNames.antt $crate/proofs
-    cp -r crates/compile_examples/proofs/ports $crate/proofs/ports
-    echo 'pub mod PortNames' > $crate/proofs/Lib.antt
-    rm $crate/specs/Units.antt
-    echo 'pub mod Ports' > $crate/specs/Lib.antt
-    find $crate -name '*.antt' -exec sed -i 's/compile_examples/machine_bench/g; s/width = 4 /width = 64 /' {} +
-    for name in main ports formulas made running; do cp "$parts/$name.rt.txt" $crate/src/$name.rt; done
+    mkdir -p $crate/src $crate/proofs/running/{run,measured}
+    cp "$parts/main.rt.txt" $crate/src/main.rt
+    cp "$parts/running.rt.txt" $crate/src/running.rt
+    cp "$top/bench/programs/modules.rt.txt" $crate/src/modules.rt
+    cp "$top/bench/programs/Lawful.antt.txt" $crate/proofs/Lawful.antt
+    echo 'pub mod Lawful' > $crate/proofs/Lib.antt
     cp "$parts/run_invariants.antt.txt" $crate/proofs/running/run/Invariants.antt
     cp "$parts/measured_invariants.antt.txt" $crate/proofs/running/measured/Invariants.antt
-    cp "$parts/many_invariants.antt.txt" $crate/proofs/formulas/+many/Invariants.antt
-    sed -n 's/^compile_examples:\(.*\)/machine_bench: anyhow\1/p' crates.txt >> crates.txt
+    sed -n 's/^unit_compile:\(.*\)/machine_bench: anyhow verilog_cycles unit_compile\1/p' crates.txt >> crates.txt
     cd $crate
+    unit > unit.psl
 }
 
 # The least of the lines '.. cycles NUMBER ns ANSWERS'.
@@ -41,7 +50,7 @@ run_machine() {
     make_program
     if [[ ${1:-} == --try ]]; then
         sed -i 's/^const BATCHES: u32 = .*/const BATCHES: u32 = 2;/' src/running.rt
-        rt try > "$room/told" 2> "$room/log" || { cat "$room/log"; exit 1; }
+        rt try --data "unit.psl=$PWD/unit.psl" > "$room/told" 2> "$room/log" || { cat "$room/log"; exit 1; }
     else
         rt run > "$room/first" 2> "$room/log" || { tail -40 "$room/log"; exit 1; }
         out/machine_bench > "$room/told"

@@ -15,5 +15,6 @@ pub mod Reaching
 pub mod RowLemmas
 pub mod SameLabel
 pub mod Steps
+pub mod Tops
 pub mod Union
 pub mod Words

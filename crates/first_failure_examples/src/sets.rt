@@ -1,10 +1,10 @@
 //! How many reached sets there are, and which tables no list of tops passes.
 
 use crate::tables::{alternatives, delayed, leaf_table, symbol_table, together, two_steps};
-use auto_core::{Literal, Table, alive};
+use auto_core::{Literal, Table, alive, contradiction};
 use std::alloc::{AllocError, Global};
 use std::test::Fail;
-use weak_determinise::{DetError, Sets, contradiction, determinise};
+use weak_determinise::{DetError, Sets, determinise};
 
 // The reached sets, of which each has at most eight leaving symbols.
 pub(crate) fn sets_of(alloc: Global, table: &Table, max_sets: u32) -> Result<Sets, DetError> {

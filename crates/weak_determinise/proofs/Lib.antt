@@ -11,4 +11,3 @@ pub mod Once
 pub mod Preparing
 pub mod Rising
 pub mod SameLabel
-pub mod Tops

@@ -1,8 +1,7 @@
-//! The sets of states that an obligation can be in, and whether nothing can meet it.
+//! The sets of states that an obligation can be in.
 #![tactic(auto)]
 
 mod bits;
-mod contradicting;
 mod determinising;
 mod marking;
 mod moving;
@@ -12,6 +11,5 @@ mod places;
 mod sets;
 mod stepping;
 
-pub use contradicting::contradiction;
 pub use determinising::determinise;
 pub use sets::{DetError, Move, SetNode, Sets};

@@ -5,8 +5,8 @@ use Rattle.std.proofs.lemmas.Option.{same_Some}
 use Rattle.auto_core.specs.declared.labels.Literal.{Literal}
 use Rattle.auto_core.specs.Machine.{Machine, AcceptsFrom}
 use Rattle.auto_core.specs.Graph.{IsAlive}
-use Rattle.weak_determinise.proofs.Members.{Contains-from_Among, Among-from_Contains}
-use Rattle.weak_determinise.proofs.Once.{Among-slice_get, slice_get-Among}
+use Rattle.auto_core.proofs.Members.{Contains-from_Among, Among-from_Contains}
+use Rattle.auto_core.proofs.Once.{Among-slice_get, slice_get-Among}
 
 -- the first edges of the state lead to no alive state
 abbrev pub DeadBelow : Machine ℕ → ℕ → ℕ → Type 0

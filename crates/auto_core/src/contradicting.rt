@@ -4,7 +4,9 @@ ghost use Rattle.std.specs.Prelude.{◌↔◌, ◌+◌, ℕ, IsTrue, None, repli
 ghost use Rattle.auto_core.specs.Graph.{graph_machine, AreMarks};
 ghost use Rattle.auto_core.specs.Machine.{Accepts};
 
-use auto_core::{Auto, Marks, Table};
+use crate::aliveness::Marks;
+use crate::automaton::Auto;
+use crate::tables::Table;
 
 /// Whether no non-empty list of tops is accepted, so that nothing can meet an obligation. `marks` are those that
 /// `alive` gives of the table.

@@ -1,8 +1,8 @@
 use Rattle.std.proofs.Common.{◌∙◌, ◌+◌, ℕ, sym, refl, subst, arith, None, replicate}
 use Rattle.auto_core.specs.Machine.{AcceptsFrom}
 use Rattle.auto_core.specs.Graph.{graph_machine}
-use Rattle.weak_determinise.proofs.Tops.{all_dead, some_accepted}
-use Rattle.weak_determinise.proofs.contradicting.contradiction.Goals as goal
+use Rattle.auto_core.proofs.Tops.{all_dead, some_accepted}
+use Rattle.auto_core.proofs.contradicting.contradiction.Goals as goal
 
 pub returns-then-get : goal.returns-then-get
 returns-then-get c =
