@@ -95,7 +95,8 @@ module _ (name : ℕ → ℕ) where
   or_registers (bool e) g l r k s p q = q
   or_registers f g l r k s p q = p
 
-  pub same_registers : (f : Formula) → registers_of (base_form_of (formula_named name f)) ≡ registers_of (base_form_of f)
+  pub same_registers : (f : Formula) →
+      registers_of (base_form_of (formula_named name f)) ≡ registers_of (base_form_of f)
   same_registers (bool e) = refl
   same_registers (not f) = refl
   same_registers (and f g) =

@@ -1,6 +1,6 @@
 -- Which directives checkers are made of.
---     first_unfit number ds    the refusal of the first directive whose form is refused: it is outside the simple subset,
---                              or isn't built
+--     first_unfit number ds    the refusal of the first directive whose form is refused: it is outside the simple
+--                              subset, or isn't built
 --     first_full number ds     the refusal of the first directive whose checker's registers have too many bits
 use Rattle.std.specs.Prelude.{◌≡◌, ℕ, suc, Bool, true, false, nat_lt, if◌then◌else◌, Option, None, Some, List, [], ◌∷◌}
 use Rattle.psl_model.specs.declared.refusals.Refusal.{Refusal}

@@ -13,9 +13,9 @@ ghost use Rattle.psl_meaning.specs.Violation.{WeaklyViolates, Violates};
 
 use psl_meaning::laws::{bar_of_bar_is_the_word, everywhere_is_each_place};
 
-/// A list leaves `next[k] f` open exactly if what is left of it from place k on leaves `f` open, and `next_a[low:high] f`
-/// exactly if that is so of each k of the range. It is the same for the strong forms: what the list hasn't come to may
-/// still come.
+/// A list leaves `next[k] f` open exactly if what is left of it from place k on leaves `f` open, and `next_a[low:high]
+/// f` exactly if that is so of each k of the range. It is the same for the strong forms: what the list hasn't come to
+/// may still come.
 pub fn next_is_its_body_later_so_far()
     ensures one { (widths : List ℕ) (s : Bool) (k high : ℕ) (f : Formula) (trace : List Valuation) →
         ¬ WeaklyViolates widths (next s reach.One k high f) trace ↔ ¬ WeaklyViolates widths f (drop k trace) }
@@ -26,8 +26,8 @@ pub fn next_is_its_body_later_so_far()
     bar_of_bar_is_the_word();
 }
 
-/// As a word that ends, a list that isn't empty does not violate `next[k] f` exactly if what is left of it from place k
-/// on does not violate `f`, where the list has such a place. The strong form asks for that place too. Of
+/// As a word that ends, a list that isn't empty does not violate `next[k] f` exactly if what is left of it from place
+/// k on does not violate `f`, where the list has such a place. The strong form asks for that place too. Of
 /// `next_a[low:high] f` each k of the range is asked that.
 pub fn next_is_its_body_later()
     ensures one { (widths : List ℕ) (s : Bool) (k high : ℕ) (f : Formula) (trace : List Valuation) → trace ≢ [] →
@@ -53,8 +53,8 @@ pub fn until_is_its_body_before_the_stop_so_far()
     everywhere_is_each_place();
 }
 
-/// As a word that ends, a list does not violate `f until b` exactly if what is left of it does not violate `f` from each
-/// place on up to which, this place included, `b` has the value 0. `until!` asks too that `b` has another value
+/// As a word that ends, a list does not violate `f until b` exactly if what is left of it does not violate `f` from
+/// each place on up to which, this place included, `b` has the value 0. `until!` asks too that `b` has another value
 /// somewhere.
 pub fn until_is_its_body_before_the_stop()
     ensures { (widths : List ℕ) (s : Bool) (f : Formula) (e : Expr) (trace : List Valuation) →

@@ -49,7 +49,8 @@ returns-in_ok-check-in-Next-clause-grows t c =
     let k = c.in-Next.count in
     let is : base_of c.args.base.now ≡ base.next s k f =
     cc (ap base_of c.in-Next.is, c.get-in-Next.ensures.whole_tree) in
-    grows_through c.args.net.now c.later_starts.new.net c.check_variant-in-Next.new.net c.join_waiting.new.net k (registers_of f)
+    grows_through c.args.net.now c.later_starts.new.net c.check_variant-in-Next.new.net c.join_waiting.new.net k
+    (registers_of f)
     (registers_of (base_of c.args.base.now)) c.growths_join.ensures.twice (sym (ap registers_of is))
     c.in_ok-gate-in-Next.ensures.grows c.in_ok-each-in-Next.ensures.grows c.in_ok-check-in-Next.ensures.grows
 
@@ -75,7 +76,8 @@ returns-in_ok-check-in-Next-clause-check t c =
     let is : base.next s k f ≡ base_of c.args.base.now =
     cc (ap base_of c.in-Next.is, c.get-in-Next.ensures.whole_tree) in
     let built : IsBuilt f = subst IsBuilt (sym is) c.requires.built in
-    through_gate m1 c.check_variant-in-Next.new.net c.join_waiting.new.net m0.widths m1.widths s (base.next s k f) (base_of c.args.base.now) f
+    through_gate m1 c.check_variant-in-Next.new.net c.join_waiting.new.net m0.widths m1.widths s (base.next s k f)
+    (base_of c.args.base.now) f
     c.args.start.0 c.args.clear.0 gate.gate.go.0 gate.gate.pend.0 each.each.fail.0 each.each.pend.0
     all.check.fail.0 all.check.pend.0
     (λ inputs run h. gate.ensures.one inputs run h m0.widths s f refl built)
@@ -92,7 +94,8 @@ returns-in_ok-check-in-NextAll-clause-grows t c =
     let high = c.in-NextAll.high in
     let is : base_of c.args.base.now ≡ base.next_all s low high f =
     cc (ap base_of c.in-NextAll.is, c.get-in-NextAll.ensures.whole_tree) in
-    grows_through c.args.net.now c.later_starts-in-NextAll.new.net c.check_variant-in-NextAll.new.net c.join_waiting-in-NextAll.new.net high (registers_of f)
+    grows_through c.args.net.now c.later_starts-in-NextAll.new.net c.check_variant-in-NextAll.new.net
+    c.join_waiting-in-NextAll.new.net high (registers_of f)
     (registers_of (base_of c.args.base.now)) c.growths_join.ensures.twice (sym (ap registers_of is))
     c.in_ok-gate-in-NextAll.ensures.grows c.in_ok-each-in-NextAll.ensures.grows c.in_ok-check-in-NextAll.ensures.grows
 
@@ -119,7 +122,8 @@ returns-in_ok-check-in-NextAll-clause-check t c =
     let is : base.next_all s low high f ≡ base_of c.args.base.now =
     cc (ap base_of c.in-NextAll.is, c.get-in-NextAll.ensures.whole_tree) in
     let built : IsBuilt (base.next_all s low high f) = subst IsBuilt (sym is) c.requires.built in
-    through_gate m1 c.check_variant-in-NextAll.new.net c.join_waiting-in-NextAll.new.net m0.widths m1.widths s (base.next_all s low high f) (base_of c.args.base.now) f
+    through_gate m1 c.check_variant-in-NextAll.new.net c.join_waiting-in-NextAll.new.net m0.widths m1.widths s
+    (base.next_all s low high f) (base_of c.args.base.now) f
     c.args.start.0 c.args.clear.0 gate.gate.go.0 gate.gate.pend.0 each.each.fail.0 each.each.pend.0
     all.check.fail.0 all.check.pend.0
     (λ inputs run h. gate.ensures.all inputs run h m0.widths s f built.1)
@@ -135,7 +139,8 @@ returns-in_ok-check-in-Until-clause-grows t c =
     let e = expr_of c.in-Until.stop in
     let is : base_of c.args.base.now ≡ base.until s f e =
     cc (ap base_of c.in-Until.is, c.get-in-Until.ensures.whole_tree) in
-    grows_through c.args.net.now c.starts_until.new.net c.check_variant-in-Until.new.net c.join_waiting-in-Until.new.net 1 (registers_of f)
+    grows_through c.args.net.now c.starts_until.new.net c.check_variant-in-Until.new.net
+    c.join_waiting-in-Until.new.net 1 (registers_of f)
     (registers_of (base_of c.args.base.now)) c.growths_join.ensures.twice (sym (ap registers_of is))
     c.in_ok-gate-in-Until.ensures.grows c.in_ok-each-in-Until.ensures.grows c.in_ok-check-in-Until.ensures.grows
 
@@ -160,7 +165,8 @@ returns-in_ok-check-in-Until-clause-check t c =
     let all = c.in_ok-check-in-Until in
     let is : base.until s f e ≡ base_of c.args.base.now =
     cc (ap base_of c.in-Until.is, c.get-in-Until.ensures.whole_tree) in
-    through_gate m1 c.check_variant-in-Until.new.net c.join_waiting-in-Until.new.net m0.widths m1.widths s (base.until s f e) (base_of c.args.base.now) f
+    through_gate m1 c.check_variant-in-Until.new.net c.join_waiting-in-Until.new.net m0.widths m1.widths s
+    (base.until s f e) (base_of c.args.base.now) f
     c.args.start.0 c.args.clear.0 gate.gate.go.0 gate.gate.pend.0 each.each.fail.0 each.each.pend.0
     all.check.fail.0 all.check.pend.0
     (λ inputs run h. gate.ensures.gate inputs run h s f)

@@ -32,15 +32,15 @@ pub loop-stage-preserved : goal.loop-stage-preserved
 loop-stage-preserved c =
     let start = c.args.start.0 in
     let uncleared = c.args.uncleared.0 in
-    let stage = c.loop-stage.stage in
+    let so_far = c.loop-stage.stage in
     let old = c.loop-stage.chain in
     let new = c.in_ok-chain.chain in
     let before = c.loop-stage.invariant in
     let more = c.in_ok-chain.ensures in
-    let next : suc stage ≡ stage + 1 = omega arith in
+    let next : suc so_far ≡ so_far + 1 = omega arith in
     record {
       kept = c.extensions_join.ensures.twice _ _ _ before.kept more.kept;
-      grows = c.growths_join.ensures.twice c.args.net.now c.loop-stage.net c.lengthen.new.net stage 1 before.grows
+      grows = c.growths_join.ensures.twice c.args.net.now c.loop-stage.net c.lengthen.new.net so_far 1 before.grows
           more.grows;
       live_net = more.live_net;
       due_net = more.due_net;
@@ -48,22 +48,22 @@ loop-stage-preserved c =
       live = λ inputs run h clear opposite n within.
           let r1 = more.kept.runs inputs run h in
           subst (λ (s : ℕ). On (run new.live.0) n ↔ AtStage s (run start) clear n) next
-          (next_stage _ stage (run start) clear (run uncleared) (run old.live.0) (run new.live.0) opposite
+          (next_stage _ so_far (run start) clear (run uncleared) (run old.live.0) (run new.live.0) opposite
           (more.live_first inputs run h) (more.live_later inputs run h) (before.live inputs run r1 clear opposite) n
           within);
       due = λ inputs run h clear opposite n within.
           let r1 = more.kept.runs inputs run h in
-          let lives = next_stage _ stage (run start) clear (run uncleared) (run old.live.0) (run new.live.0) opposite
+          let lives = next_stage _ so_far (run start) clear (run uncleared) (run old.live.0) (run new.live.0) opposite
           (more.live_first inputs run h) (more.live_later inputs run h) (before.live inputs run r1 clear opposite) n
           within in
           subst (λ (s : ℕ). On (run new.due.0) n ↔ IsDue c.args.low s (run start) clear n) next
-          (due_more c.args.low stage (run start) clear (run old.due.0) (run new.live.0) (run new.due.0) _ n
-          (early_low c.args.low stage) lives (before.due inputs run r1 clear opposite n within)
+          (due_more c.args.low so_far (run start) clear (run old.due.0) (run new.live.0) (run new.due.0) _ n
+          (early_low c.args.low so_far) lives (before.due inputs run r1 clear opposite n within)
           (more.due inputs run h n within));
       waiting = λ inputs run h clear opposite n within.
           let r1 = more.kept.runs inputs run h in
           subst (λ (s : ℕ). On (run new.waiting.0) n ↔ IsAwaited s (run start) clear n) next
-          (awaited_more stage (run start) clear (run old.waiting.0) (run old.live.0) (run new.waiting.0) n
+          (awaited_more so_far (run start) clear (run old.waiting.0) (run old.live.0) (run new.waiting.0) n
           (before.live inputs run r1 clear opposite n within) (before.waiting inputs run r1 clear opposite n within)
           (more.waiting inputs run h n within));
     }
