@@ -37,5 +37,6 @@ compiled one_unit text checkers modules h spelled =
     record {
       is_unit = (h.accepted.unit, h.accepted.stands);
       checks = λ unit also.
-          subst (λ (u : PslUnit). ChecksUnit u checkers) (one_unit text h.accepted.unit unit h.accepted.stands also) checks;
+          subst (λ (u : PslUnit). ChecksUnit u checkers)
+          (one_unit text h.accepted.unit unit h.accepted.stands also) checks;
     }

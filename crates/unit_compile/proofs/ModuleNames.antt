@@ -106,8 +106,8 @@ module _ (unit : PslUnit) where
       let next : m < suc from = omega arith in
       let rest : suc from + length ds < 2 ^ 64 = omega arith in
       All-cons (λ (name : List ℕ). x.name ≢ name) y.name (names_of ms)
-      (names_differ m from d e x y lt inside h (All-head IsCalled e ds called) (All-head (HaveOwnLabels d) e ds differ) p
-      made.0)
+      (names_differ m from d e x y lt inside h (All-head IsCalled e ds called)
+      (All-head (HaveOwnLabels d) e ds differ) p made.0)
       (later_differ m (suc from) d x ds ms next rest h p (All-tail IsCalled e ds called)
       (All-tail (HaveOwnLabels d) e ds differ) made.1)
 

@@ -5,8 +5,8 @@ use Rattle.unit_compile.proofs.compiling.modules.Goals as goal
 
 pub returns-clause-accepted : goal.returns-clause-accepted
 returns-clause-accepted c =
-    when_accepted (λ v. map module_of v.items) c.args.text.now (c.a_text_has_one_answer.ensures.not_both c.args.text.now)
-    c.text_modules.result c.text_modules.ensures.refused
+    when_accepted (λ v. map module_of v.items) c.args.text.now
+    (c.a_text_has_one_answer.ensures.not_both c.args.text.now) c.text_modules.result c.text_modules.ensures.refused
 
 pub returns-clause-due : goal.returns-clause-due
 returns-clause-due c =
