@@ -55,10 +55,13 @@ pub returns-in-TooManyPlaces : goal.returns-in-TooManyPlaces
 returns-in-TooManyPlaces g c = rw c.in-TooManyPlaces.is c.write_sequence.ensures
 
 pub returns-in-Contradiction : goal.returns-in-Contradiction
-returns-in-Contradiction g c = rw (c.in-Contradiction.is, ← c.from-in-Contradiction.ensures) c.write_directive-in-Contradiction.ensures
+returns-in-Contradiction g c =
+    rw (c.in-Contradiction.is, ← c.from-in-Contradiction.ensures) c.write_directive-in-Contradiction.ensures
 
 pub returns-in-SequenceTooLarge : goal.returns-in-SequenceTooLarge
-returns-in-SequenceTooLarge g c = rw (c.in-SequenceTooLarge.is, ← c.from-in-SequenceTooLarge.ensures) c.write_directive-in-SequenceTooLarge.ensures
+returns-in-SequenceTooLarge g c =
+    let told = c.write_directive-in-SequenceTooLarge.ensures in
+    rw (c.in-SequenceTooLarge.is, ← c.from-in-SequenceTooLarge.ensures) told
 
 pub returns-in-TooManyRegisters : goal.returns-in-TooManyRegisters
 returns-in-TooManyRegisters g c = rw c.in-TooManyRegisters.is c.write_directive-in-TooManyRegisters.ensures
