@@ -51,7 +51,7 @@ declared() {
 comments() {
     awk -v size="$limit" 'BEGIN {
         last = "vunit u { assert always a; }\n"
-        line = "// a line that says nothing but what a comment may say, in 64 bytes\n"
+        line = "// a line that says nothing but what a comment may say\n"
         for (used = length(last); used + length(line) <= size; used += length(line)) printf "%s", line
         printf "%s", last }'
 }
