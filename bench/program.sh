@@ -50,7 +50,8 @@ declared() {
 # As many comments as fit before one assertion.
 comments() {
     awk -v size="$limit" 'BEGIN {
-        last = "vunit u { assert always a; }\n"; line = "// a line of 64 bytes that says nothing but what a comment may say\n"
+        last = "vunit u { assert always a; }\n"
+        line = "// a line that says nothing but what a comment may say\n"
         for (used = length(last); used + length(line) <= size; used += length(line)) printf "%s", line
         printf "%s", last }'
 }
