@@ -43,6 +43,7 @@ fn properties_bind_by_their_levels(rt: HostRuntime) {
         (b"a && p || b", b"[|| [&& a <p>] b]"),
         (b"a && b || p", b"[|| (&& a b) <p>]"),
         (b"p || a && b", b"[|| <p> (&& a b)]"),
+        (b"p || a || b", b"[|| [|| <p> a] b]"),
         (b"(a -> b) && c | d", b"[&& [-> a b] (| c d)]"),
     ] {
         assert!(rt; prop_gives(rt.alloc(), text, tree), "{text:?}");
