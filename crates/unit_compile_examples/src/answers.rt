@@ -5,7 +5,7 @@ use std::alloc::Global;
 use std::test::Fail;
 use unit_compile::modules;
 
-static REFUSED: [(&[u8], Refusal); 18] = [
+static REFUSED: [(&[u8], Refusal); 19] = [
     (b"", Refusal::Syntax { offset: 0 }),
     (b"vunit u { assert always", Refusal::Syntax { offset: 23 }),
     (
@@ -54,6 +54,13 @@ static REFUSED: [(&[u8], Refusal); 18] = [
         Refusal::Subset {
             directive: 2,
             rule: 7,
+        },
+    ),
+    (
+        b"vunit u { assert (always a) || (always b); }",
+        Refusal::Subset {
+            directive: 1,
+            rule: 4,
         },
     ),
     // Of two directives the first is told, whatever stands against it.

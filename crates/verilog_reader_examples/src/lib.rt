@@ -8,6 +8,8 @@ mod checker;
 #[cfg(test)]
 mod orders;
 #[cfg(test)]
+mod pairs;
+#[cfg(test)]
 mod runs;
 #[cfg(test)]
 mod sizes;

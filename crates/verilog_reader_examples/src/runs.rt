@@ -46,7 +46,7 @@ fn last(modules: Vec<Module>) -> Option<Module>
 }
 
 /// The last of the modules that the bytes stand for.
-fn read_last(alloc: Global, text: &[u8]) -> Option<Module>
+pub(crate) fn read_last(alloc: Global, text: &[u8]) -> Option<Module>
     ensures { IfSome result (λ checker. IsLawful (module_of checker)) }
 {
     match read_modules(alloc, text) {
