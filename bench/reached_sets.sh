@@ -1,5 +1,5 @@
 #!/usr/bin/env bash
-# Measures how long the reached sets of a table of 4,9xx states take, and the automaton of first failure, in
+# Measures how long the reached sets of a table of about 5,000 states take, and the automaton of first failure, in
 # milliseconds. The program is proved and built in a temporary copy of the repository.
 #   bench/reached_sets.sh          builds the program from the proved crates
 #   bench/reached_sets.sh --try    runs it unproved and by an interpreter, on a small table, to try the script
@@ -19,7 +19,8 @@ cp -r crates/first_failure_examples/proofs/tables $crate/proofs
 find $crate -name '*.antt' -exec sed -i 's/first_failure_examples/sets_bench/g' {} +
 sed -i '/^\/\/ The choice of as many first symbols/,/^}/d; s/pub(crate) fn together/pub fn together/' $crate/src/tables.rt
 sed -i 's/fn delayed(alloc: Global, letters: usize)/fn delayed(alloc: Global, letters: usize, symbol: usize)/
-    s/let last = symbol_table(alloc, 1)?;/let last = symbol_table(alloc, symbol)?;/' $crate/src/tables.rt
+    s/let last = symbol_table(alloc, 1)?;/let last = symbol_table(alloc, symbol)?;/
+    s/, 5000)/, 8192)/' $crate/src/tables.rt
 cat > $crate/src/main.rt <<'RATTLE'
 //! How long the reached sets of a large table take.
 #![tactic(auto)]
