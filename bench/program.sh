@@ -56,6 +56,16 @@ comments() {
         printf "%s", last }'
 }
 
+# One assertion with as many registers as a checker may have: sixteen `next`, one in the other.
+registers() {
+    awk 'BEGIN {
+        text = "vunit u { assert next[4095]("
+        for (n = 1; n < 16; n++) text = text "next[4096]("
+        text = text "b"
+        for (n = 0; n < 16; n++) text = text ")"
+        print text "; }" }'
+}
+
 # The least time of the runs.
 measure() {
     local least= start end
@@ -70,7 +80,7 @@ measure() {
 }
 
 echo "$(nproc) processors, load $(cut -d' ' -f1-3 /proc/loadavg)"
-for unit in many large wide declared comments; do
+for unit in many large wide declared comments registers; do
     $unit > unit.psl
     measure $unit
 done
