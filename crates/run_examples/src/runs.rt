@@ -44,7 +44,7 @@ fn output_of(alloc: Global, failing: Failing) -> Result<MemorySink, AllocError> 
     if let Failing::Write(call) = failing {
         calls.push(call)?;
     }
-    MemorySink::new(alloc, 10_000, 10, calls)
+    MemorySink::new(alloc, 1_000_000, 10, calls)
 }
 
 fn notes_of(alloc: Global, failing: Failing) -> Result<MemorySink, AllocError> {

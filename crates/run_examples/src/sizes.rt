@@ -69,6 +69,8 @@ fn a_unit_has_256_directives_at_most(rt: HostRuntime) -> Result<(), Fail> {
     let more = repeated(alloc, b"vunit u {", b" assert a;", 257, b" }")?;
     let cause = Cause::Refused(Refusal::TooManyDirectives { offset: 2570 });
     assert!(rt; is_refused(alloc, &more, &cause, b"mbac: TooManyDirectives 2570\n"));
+    let most = repeated(alloc, b"vunit u {", b" assert a;", 256, b" }")?;
+    assert!(rt; is_compiled(alloc, &most));
     Ok(())
 }
 
@@ -94,8 +96,8 @@ fn a_unit_has_1_024_signals_at_most(rt: HostRuntime) -> Result<(), Fail> {
     Ok(())
 }
 
-// Two sequences of 300 parts, the second one of which begins with the first.
-fn tall(alloc: Global) -> Result<Vec<u8>, AllocError> {
+// A sequence of 300 parts, and one that begins with it and has so many parts more.
+fn tall(alloc: Global, more: usize) -> Result<Vec<u8>, AllocError> {
     let front = repeated(
         alloc,
         b"vunit u { sequence s = {a",
@@ -103,18 +105,21 @@ fn tall(alloc: Global) -> Result<Vec<u8>, AllocError> {
         299,
         b"}; sequence t = {s",
     )?;
-    repeated(alloc, &front, b";a", 299, b"}; assert t; }")
+    repeated(alloc, &front, b";a", more, b"}; assert t; }")
 }
 
 #[test]
 fn a_directive_is_512_deep_at_most(rt: HostRuntime) -> Result<(), Fail> {
     let alloc = rt.alloc();
-    let unit = tall(alloc)?;
+    let taller = tall(alloc, 213)?;
     let cause = Cause::Refused(Refusal::TooTall {
         directive: 1,
-        depth: 599,
+        depth: 513,
     });
-    assert!(rt; is_refused(alloc, &unit, &cause, b"mbac: TooTall 1 599\n"));
+    assert!(rt; is_refused(alloc, &taller, &cause, b"mbac: TooTall 1 513\n"));
+    let tallest = tall(alloc, 212)?;
+    let cause = Cause::Refused(Refusal::Unbuilt);
+    assert!(rt; is_refused(alloc, &tallest, &cause, b"mbac: Unbuilt\n"));
     Ok(())
 }
 
