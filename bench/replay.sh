@@ -21,7 +21,7 @@ unit() {
             a = "s" n % 32; b = "s" (n * 7 + 3) % 32; c = "s" (n * 11 + 5) % 32; v = "v" n % 8; w = "v" (n + 3) % 8
             if (n % 4 == 0) print "  assert always (" a " && " b " -> " c " || " v " != " w ");"
             if (n % 4 == 1) print "  assert never (" a " && " b " && " c " && " v "[3:0] == 4'\''d" n % 16 ");"
-            if (n % 4 == 2) print "  assert always (" v " + 1 > " w " || " a " || always (" b " -> " c "));"
+            if (n % 4 == 2) print "  assert always (" v " + 1 > " w " || " a " || (always (" b " -> " c ")));"
             if (n % 4 == 3) print "  assert always (" a " -> (" b " -> " v "[" n % 16 "]) && " w " < 16'\''d60000);"
         }
         print "}" }'
