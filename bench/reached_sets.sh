@@ -9,7 +9,7 @@ set -euo pipefail
 top=$(cd "$(dirname "$0")/.." && pwd)
 room=$(mktemp -d)
 trap 'rm -rf "$room"' EXIT
-tar -C "$top" --exclude=.git --exclude=./crates/*/out -cf - . | tar -C "$room" -xf -
+tar -C "$top" --exclude=.git -cf - . | tar -C "$room" -xf -
 cd "$room"
 sed -n 's/^first_failure_examples:\(.*\)/sets_bench: anyhow\1/p' crates.txt >> crates.txt
 crate=crates/sets_bench

@@ -94,7 +94,7 @@ bench() {
 
 make_program() {
     mkdir "$room/repository"
-    tar -C "$top" --exclude=.git --exclude=./crates/*/out -cf - . | tar -C "$room/repository" -xf -
+    tar -C "$top" --exclude=.git -cf - . | tar -C "$room/repository" -xf -
     cd "$room/repository"
     sed -n 's/^unit_compile:\(.*\)/replay_bench: anyhow vcd_replay vcd_reader verilog_cycles unit_compile\1/p' \
         crates.txt >> crates.txt

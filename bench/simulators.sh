@@ -26,7 +26,7 @@ unit() {
 # A copy of the repository with a program that compiles the unit, prints its checker and runs it.
 make_program() {
     mkdir "$room/repository"
-    tar -C "$top" --exclude=.git --exclude=./crates/*/out -cf - . | tar -C "$room/repository" -xf -
+    tar -C "$top" --exclude=.git -cf - . | tar -C "$room/repository" -xf -
     cd "$room/repository"
     local crate=crates/machine_bench
     mkdir -p $crate/src $crate/proofs/running/{run,measured}
