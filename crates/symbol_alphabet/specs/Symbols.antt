@@ -36,7 +36,7 @@ is_one e = false
 
 -- whether the expression is `1'd1` but for an even number of leading `!`
 abbrev pub needs_none : Expr → Bool
-needs_none e = is_one (stripped e) && is_positive e
+needs_none e = is_positive e && is_one (stripped e)
 
 -- whether two expressions are equal
 abbrev pub same : Expr → Expr → Bool
@@ -44,25 +44,29 @@ same a b = same_code (expr_code a) (expr_code b)
 
 -- ---- symbols
 
+-- the place of an expression, or the number of symbols where it isn't one
+abbrev pub place_in : List Expr → Expr → ℕ
+place_in symbols e = position_or_len (same e) symbols
+
 -- An expression that needs no symbol has the empty label. Each other has one literal: its symbol is the place of what
--- is left without the leading `!`, or the number of symbols where that isn't there, and its sign is by the `!`.
+-- is left without the leading `!`, and its sign is by the number of these.
 abbrev pub label_in : List Expr → Expr → List Literal
 label_in symbols e =
     if needs_none e
     then []
-    else record { symbol = position_or_len (same (stripped e)) symbols; positive = is_positive e } ∷ []
+    else record { symbol = place_in symbols (stripped e); positive = is_positive e } ∷ []
 
 -- what is left without the leading `!` is a symbol, or none is needed
 abbrev pub HasSymbol : List Expr → Expr → Type 0
 HasSymbol symbols e = (needs_none e ≡ true) ⊎ Contains symbols (stripped e)
 
--- the symbols after an expression was seen: at their end stands what is left without the leading `!`, unless it stood
--- among them or none is needed
+-- the symbols with one more, which goes last unless it is there
+abbrev pub numbered : List Expr → Expr → List Expr
+numbered symbols e = if list_any (same e) symbols then symbols else symbols ++ e ∷ []
+
+-- the symbols after an expression was seen: what is left without the leading `!` is there, unless none is needed
 abbrev pub with_symbol : List Expr → Expr → List Expr
-with_symbol symbols e =
-    if needs_none e
-    then symbols
-    else (if list_any (same (stripped e)) symbols then symbols else symbols ++ stripped e ∷ [])
+with_symbol symbols e = if needs_none e then symbols else numbered symbols (stripped e)
 
 -- no symbol stands there twice
 abbrev pub AreDifferent : List Expr → Type 0

@@ -3,5 +3,7 @@
 
 pub mod laws;
 mod symbols;
+#[cfg(test)]
+mod tests;
 
 pub use symbols::Symbols;

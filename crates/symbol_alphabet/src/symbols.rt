@@ -1,15 +1,15 @@
 //! Numbers of expressions.
 
-ghost use Rattle.std.specs.Prelude.{◌≡◌, ◌≢◌, ◌↔◌, ◌<◌, ◌≤◌, ◌++◌, ℕ, List, [], ◌∷◌, All, Some, length, slice_get, position};
-ghost use Rattle.std.specs.Prelude.{IfOk, OnOk, OnErr, MatchOption, IsTrue};
+ghost use Rattle.std.specs.Prelude.{◌≡◌, ◌≢◌, ◌↔◌, ◌<◌, ◌≤◌, ◌++◌, ℕ, List, [], ◌∷◌, All, Contains, Some, length};
+ghost use Rattle.std.specs.Prelude.{IfOk, OnOk, OnErr, MatchOption, position, slice_get};
 ghost use Rattle.auto_core.specs.Machine.{Passes};
 ghost use Rattle.auto_core.specs.declared.labels.Literal.{Literal};
 ghost use Rattle.psl_meaning.specs.Sequence.{Holds};
 ghost use Rattle.psl_meaning.specs.Word.{Letter, bottom};
 ghost use Rattle.psl_model.specs.Expr as tree;
 ghost use Rattle.psl_model.specs.View.{expr_of};
-ghost use Rattle.symbol_alphabet.specs.Symbols.{same, stripped, is_positive, is_one, label_in, HasSymbol, with_symbol};
-ghost use Rattle.symbol_alphabet.specs.Symbols.{AreDifferent, seen_by};
+ghost use Rattle.symbol_alphabet.specs.Symbols.{same, stripped, is_positive, is_one, needs_none, place_in, label_in};
+ghost use Rattle.symbol_alphabet.specs.Symbols.{HasSymbol, numbered, with_symbol, AreDifferent, seen_by};
 
 use auto_core::{Label, Literal};
 use indexmap::IndexSet;
@@ -67,6 +67,13 @@ fn is_one(expr: &Expr) -> bool
     matches!(expr, Expr::Sized(1, 1))
 }
 
+// Whether the expression is `1'd1` but for an even number of leading `!`.
+fn needs_none(expr: &Expr) -> bool
+    ensures { result ≡ needs_none (expr_of expr.now) }
+{
+    is_positive(expr) && is_one(stripped(expr))
+}
+
 fn one_literal(alloc: Global, literal: Literal) -> Result<Label, AllocError>
     ensures { IfOk result (λ label. label ≡ literal ∷ []) }
 {
@@ -110,13 +117,40 @@ impl Symbols {
 
     // Gives an expression that wasn't seen the next number.
     fn add(&mut self, expr: Expr) -> Result<(), AllocError>
-        requires { position (same (expr_of expr)) self.old ≡ None }
+        requires { ¬ Contains self.old (expr_of expr) }
         ensures ok { OnOk result (self.new ≡ self.old ++ expr_of expr ∷ []) }
         ensures err { OnErr result (self.new ≡ self.old) }
     {
         match self.numbered.insert(expr) {
             Ok(_) => Ok(()),
             Err(_) => Err(AllocError),
+        }
+    }
+
+    // The label of an expression that wasn't seen, which gets the next number.
+    fn new_literal(&mut self, alloc: Global, expr: &Expr, positive: bool) -> Result<Label, AllocError>
+        requires { ¬ Contains self.old (expr_of expr.now) }
+        ensures symbols { OnOk result (self.new ≡ self.old ++ expr_of expr.now ∷ []) }
+        ensures label { IfOk result (λ label. label ≡ record { symbol = length self.old; positive = positive } ∷ []) }
+        ensures unchanged { OnErr result (self.new ≡ self.old) }
+    {
+        let symbol = self.count();
+        let label = one_literal(alloc, Literal { symbol, positive })?;
+        let copy = expr.copy(alloc)?;
+        self.add(copy)?;
+        Ok(label)
+    }
+
+    // The label that has the expression as its symbol.
+    fn literal(&mut self, alloc: Global, expr: &Expr, positive: bool) -> Result<Label, AllocError>
+        ensures symbols { OnOk result (self.new ≡ numbered self.old (expr_of expr.now)) }
+        ensures label { IfOk result (λ label.
+            label ≡ record { symbol = place_in self.new (expr_of expr.now); positive = positive } ∷ []) }
+        ensures unchanged { OnErr result (self.new ≡ self.old) }
+    {
+        match self.number(expr) {
+            Some(symbol) => one_literal(alloc, Literal { symbol, positive }),
+            None => self.new_literal(alloc, expr, positive),
         }
     }
 
@@ -131,21 +165,10 @@ impl Symbols {
         ensures holds { IfOk result (λ label. (widths : List ℕ) (a : Letter) →
             a ≢ bottom → Passes label (seen_by widths self.new a) ↔ Holds widths (expr_of expr.now) a) }
         ensures unchanged { OnErr result (self.new ≡ self.old) }
-        ensures different { AreDifferent self.new }
     {
-        let rest = stripped(expr);
-        let positive = is_positive(expr);
-        if positive && is_one(rest) {
+        if needs_none(expr) {
             return Ok(Label::new(alloc));
         }
-        match self.number(rest) {
-            Some(symbol) => one_literal(alloc, Literal { symbol, positive }),
-            None => {
-                let symbol = self.count();
-                let label = one_literal(alloc, Literal { symbol, positive })?;
-                self.add(rest.copy(alloc)?)?;
-                Ok(label)
-            }
-        }
+        self.literal(alloc, stripped(expr), is_positive(expr))
     }
 }
