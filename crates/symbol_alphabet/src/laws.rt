@@ -22,6 +22,8 @@ pub fn an_expression_is_numbered_once()
     ensures known { (symbols : List Expr) (e : Expr) → HasSymbol symbols e → with_symbol symbols e ≡ symbols }
     ensures new { (symbols : List Expr) (e : Expr) →
         ¬ HasSymbol symbols e → with_symbol symbols e ≡ symbols ++ stripped e ∷ [] }
+    ensures grows { (symbols : List Expr) (e : Expr) →
+        (more : List Expr) × (with_symbol symbols e ≡ symbols ++ more) }
     ensures different { (symbols : List Expr) (e : Expr) →
         AreDifferent symbols → AreDifferent (with_symbol symbols e) }
 {}

@@ -159,6 +159,7 @@ impl Symbols {
     /// After want of memory the symbols are those that were there.
     pub fn label(&mut self, alloc: Global, expr: &Expr) -> Result<Label, AllocError>
         ensures symbols { OnOk result (self.new ≡ with_symbol self.old (expr_of expr.now)) }
+        ensures grows { (more : List tree.Expr) × (self.new ≡ self.old ++ more) }
         ensures label { IfOk result (λ label. label ≡ label_in self.new (expr_of expr.now)) }
         ensures numbered { OnOk result (HasSymbol self.new (expr_of expr.now)) }
         ensures within { IfOk result (λ label. All (λ l. l.symbol < length self.new) label) }
