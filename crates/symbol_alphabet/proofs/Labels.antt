@@ -165,10 +165,10 @@ passes_holds widths symbols e (valuation values) has out =
       | inr h ↦
           let found = literal_at symbols e has h in
           let at : value_in (truths widths symbols values) found.0 ≡ truth widths values (stripped e) =
-              value_at widths symbols values found.0 (stripped e) found.1 in (
+          value_at widths symbols values found.0 (stripped e) found.1 in (
             (λ p.
                 let k = subst (λ (ls : List Literal). Passes ls (seen_by widths symbols (valuation values)))
-                    found.2 p in
+                found.2 p in
                 not_zero widths values e ((as_signed widths values e).0 (sym at ∙ k.0))),
             (λ q. subst (λ (ls : List Literal). Passes ls (seen_by widths symbols (valuation values))) (sym found.2)
                 (at ∙ (as_signed widths values e).1 (is_true widths values e q), tt)),

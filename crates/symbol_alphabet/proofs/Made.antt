@@ -1,5 +1,6 @@
 -- What the code makes, as the definitions say it.
-use Rattle.std.proofs.Common.{◌≡◌, Bool, false, true, List, [], ◌∷◌, ◌++◌, map, Contains, Result, IfOk, OnOk, OnErr, Ok, Err}
+use Rattle.std.proofs.Common.{◌≡◌, Bool, false, List, [], ◌∷◌, ◌++◌, map, Contains, Result, IfOk, OnOk, OnErr, Ok}
+use Rattle.std.proofs.Common.{Err}
 use Rattle.std.proofs.Common.{sym, ap, subst, ◌∙◌, if◌then◌else◌, append-nil}
 use Rattle.std.specs.List.{list_any}
 use Rattle.std.proofs.lemmas.List.{map-append}
@@ -28,8 +29,8 @@ pub pushed : (keys new : List code.Expr) (e : code.Expr) → (Contains (map expr
     new ≡ insert_key same_expr keys e → map expr_of new ≡ map expr_of keys ++ expr_of e ∷ []
 pushed keys new e out is =
     let none : list_any (same_expr e) keys ≡ false =
-        sym (any_of_map expr_of (same (expr_of e)) keys)
-        ∙ absent_any same same_decides (map expr_of keys) (expr_of e) out in
+    sym (any_of_map expr_of (same (expr_of e)) keys)
+    ∙ absent_any same same_decides (map expr_of keys) (expr_of e) out in
     ap (map expr_of) (is ∙ ap (λ (b : Bool). if b then keys else keys ++ e ∷ []) none)
     ∙ map-append expr_of keys (e ∷ [])
 

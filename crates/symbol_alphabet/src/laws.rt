@@ -1,6 +1,6 @@
 //! Laws of symbols, of labels and of letters. The functions do nothing: each contract is the law.
 
-ghost use Rattle.std.specs.Prelude.{◌≡◌, ◌≢◌, ◌↔◌, ◌<◌, ◌++◌, ℕ, List, [], ◌∷◌, All, Some, Contains, IsTrue, true, false};
+ghost use Rattle.std.specs.Prelude.{◌≡◌, ◌≢◌, ◌↔◌, ◌<◌, ◌++◌, ℕ, List, [], ◌∷◌, All, Some, IsTrue, true, false};
 ghost use Rattle.std.specs.Prelude.{length, slice_get};
 ghost use Rattle.auto_core.specs.Machine.{Passes};
 ghost use Rattle.auto_core.specs.declared.labels.Literal.{Literal};

@@ -128,7 +128,12 @@ impl Symbols {
     }
 
     // The label of an expression that wasn't seen, which gets the next number.
-    fn new_literal(&mut self, alloc: Global, expr: &Expr, positive: bool) -> Result<Label, AllocError>
+    fn new_literal(
+        &mut self,
+        alloc: Global,
+        expr: &Expr,
+        positive: bool,
+    ) -> Result<Label, AllocError>
         requires { ¬ Contains self.old (expr_of expr.now) }
         ensures symbols { OnOk result (self.new ≡ self.old ++ expr_of expr.now ∷ []) }
         ensures label { IfOk result (λ label. label ≡ record { symbol = length self.old; positive = positive } ∷ []) }

@@ -41,10 +41,10 @@ returns-clause-within c =
     let h : needs_none e ≡ false = cc in
     let new = c.literal.new.self in
     if_both c.literal.result
-        (λ label l s. subst (All (λ (m : Literal). m.symbol < length new))
-            (sym (made_label new e rest c.is_positive.result label h c.stripped.ensures c.is_positive.ensures l))
-            (within new e (made_has c.args.self.now new e rest h c.stripped.ensures s)))
-        c.literal.ensures.label c.literal.ensures.symbols
+    (λ label l s. subst (All (λ (m : Literal). m.symbol < length new))
+    (sym (made_label new e rest c.is_positive.result label h c.stripped.ensures c.is_positive.ensures l))
+    (within new e (made_has c.args.self.now new e rest h c.stripped.ensures s)))
+    c.literal.ensures.label c.literal.ensures.symbols
 
 pub returns-clause-holds : goal.returns-clause-holds
 returns-clause-holds c =
@@ -53,8 +53,8 @@ returns-clause-holds c =
     let h : needs_none e ≡ false = cc in
     let new = c.literal.new.self in
     if_both c.literal.result
-        (λ label l s widths a out.
-            subst (λ (ls : List Literal). Passes ls (seen_by widths new a) ↔ Holds widths e a)
-            (sym (made_label new e rest c.is_positive.result label h c.stripped.ensures c.is_positive.ensures l))
-            (passes_holds widths new e a (made_has c.args.self.now new e rest h c.stripped.ensures s) out))
-        c.literal.ensures.label c.literal.ensures.symbols
+    (λ label l s widths a out.
+    subst (λ (ls : List Literal). Passes ls (seen_by widths new a) ↔ Holds widths e a)
+    (sym (made_label new e rest c.is_positive.result label h c.stripped.ensures c.is_positive.ensures l))
+    (passes_holds widths new e a (made_has c.args.self.now new e rest h c.stripped.ensures s) out))
+    c.literal.ensures.label c.literal.ensures.symbols
