@@ -1,11 +1,11 @@
 -- What is found is what is detected.
-use Rattle.std.proofs.Common.{◌≡◌, ℕ, ◌+◌, ◌<◌, ◌≤◌, false, IsTrue, List, length, get_or, All, ◌↔◌, refl, sym, ap, ◌∙◌}
+use Rattle.std.proofs.Common.{◌≡◌, ℕ, ◌<◌, false, IsTrue, List, length, get_or, ◌↔◌, sym}
 use Rattle.std.proofs.Common.{subst, arith}
 use Rattle.auto_core.specs.declared.tables.Edge.{Edge}
 use Rattle.auto_core.specs.Graph.{Graph, graph_machine}
 use Rattle.circuit_core.specs.declared.nodes.Net.{Net}
 use Rattle.circuit_core.specs.Netlist.{Netlist}
-use Rattle.circuit_core.specs.Run.{Run, On, InEachCycle}
+use Rattle.circuit_core.specs.Run.{On, InEachCycle}
 use Rattle.sequence_circuits.specs.declared.states.State.{State}
 use Rattle.sequence_circuits.specs.Guards.{numbers}
 use Rattle.sequence_circuits.specs.Detection.{letter_at, IsDetected}

@@ -48,7 +48,7 @@ number_below values (s ∷ ss) = below (values s) (move_number values ss) (lengt
 pub doubled : (Live Guard : Type 0) (Old New : ℕ → Type 0) (size m : ℕ) (b : Bool) → m < size → Guard ↔ (b ≡ true) →
     ((v : ℕ) → v < size → Old v ↔ (Live × (m ≡ v)))
     → ((v : ℕ) → v < size → New v ↔ (Old v × ¬ Guard)) → ((v : ℕ) → v < size → New (size + v) ↔ (Old v × Guard)) →
-        (v : ℕ) → v < 2 * size → New v ↔ (Live × (m + when b size ≡ v))
+    (v : ℕ) → v < 2 * size → New v ↔ (Live × (m + when b size ≡ v))
 doubled Live Guard Old New size m true lt guard olds offs ons v below =
     elim (cases_lt v size) [
       | inl low ↦ ((λ h. absurd (((offs v low).0 h).1 (guard.1 refl))), (λ p. absurd (omega (arith, p.1))))
@@ -64,14 +64,17 @@ doubled Live Guard Old New size m false lt guard olds offs ons v below =
     elim (cases_lt v size) [
       | inl low ↦ (
         (λ h. let p = (offs v low).0 h in let q = (olds v low).0 p.0 in (q.0, omega (arith, q.1))),
-        (λ p. (offs v low).1 ((olds v low).1 (p.0, omega (arith, p.1)),
-            (λ g. let e : false ≡ true = guard.0 g in absurd (cc)))),
+        (λ p. (offs v low).1 (
+          (olds v low).1 (p.0, omega (arith, p.1)),
+          (λ g. let e : false ≡ true = guard.0 g in absurd (cc)),
+        )),
       )
       | inr high ↦ (let w : ℕ = v - size in
           let e : size + w ≡ v = omega arith in
-          let in_ : w < size = omega arith in
-          ((λ h. let e2 : false ≡ true = guard.0 ((ons w in_).0 (subst New (sym e) h)).1 in absurd (cc)),
-              (λ p. absurd (omega (arith, p.1)))))
+          let in_ : w < size = omega arith in (
+            (λ h. let e2 : false ≡ true = guard.0 ((ons w in_).0 (subst New (sym e) h)).1 in absurd (cc)),
+            (λ p. absurd (omega (arith, p.1))),
+          ))
     ]
 
 pub valuation_first : (run : Run) (n : ℕ) (live : Net) (nets : List Net) (values : ℕ → Bool) (v : ℕ) → nets ≡ live ∷
@@ -79,19 +82,19 @@ pub valuation_first : (run : Run) (n : ℕ) (live : Net) (nets : List Net) (valu
 valuation_first run n live nets values v is lt =
     let zero_ : v ≡ 0 = omega arith in
     let e : get_or (numbers nets) v 0 ≡ live.0 = ap (λ (ks : List Net). get_or (numbers ks) v 0) is ∙ ap
-        (λ (t : ℕ). get_or (numbers (live ∷ [])) t 0) zero_ in
+    (λ (t : ℕ). get_or (numbers (live ∷ [])) t 0) zero_ in
     ((λ on. (on_same run n _ _ e on, sym zero_)), (λ p. on_same run n _ _ (sym e) p.0))
 
 pub valuation_more : (run : Run) (n : ℕ) (guards symbols : List ℕ) (j live guard : ℕ) (old new : List Net) → j <
     length symbols → length old ≡ 2 ^ j → On (run guard) n ↔ (values_at run guards n (get_or symbols j 0) ≡ true)
     → ((v : ℕ) → v < 2 ^ j → On (stream_at run (numbers old) v) n ↔
-        (On (run live) n × (move_number (values_at run guards n) (take j symbols) ≡ v)))
+    (On (run live) n × (move_number (values_at run guards n) (take j symbols) ≡ v)))
     → ((v : ℕ) → v < length old → On (stream_at run (numbers new) v) n ↔
-        (On (stream_at run (numbers old) v) n × ¬ On (run guard) n))
+    (On (stream_at run (numbers old) v) n × ¬ On (run guard) n))
     → ((v : ℕ) → v < length old → On (stream_at run (numbers new) (length old + v)) n ↔
-        (On (stream_at run (numbers old) v) n × On (run guard) n))
+    (On (stream_at run (numbers old) v) n × On (run guard) n))
     → (v : ℕ) → v < 2 ^ (j + 1) → On (stream_at run (numbers new) v) n ↔
-        (On (run live) n × (move_number (values_at run guards n) (take (j + 1) symbols) ≡ v))
+    (On (run live) n × (move_number (values_at run guards n) (take (j + 1) symbols) ≡ v))
 valuation_more run n guards symbols j live guard old new lt size known olds offs ons v below =
     let values = values_at run guards n in
     let m : ℕ = move_number values (take j symbols) in
@@ -99,14 +102,14 @@ valuation_more run n guards symbols j live guard old new lt size known olds offs
     let inside : m < 2 ^ j = subst (λ (k : ℕ). m < 2 ^ k) counted (number_below values (take j symbols)) in
     let more : move_number values (take (j + 1) symbols) ≡ m + when (values (get_or symbols j 0)) (2 ^ j) =
     ap (λ (ss : List ℕ). move_number values ss) (take_more symbols j 0 lt) ∙ number_append values (take j symbols)
-        (get_or symbols j 0) ∙ ap (λ (k : ℕ). m + when (values (get_or symbols j 0)) (2 ^ k)) counted in
+    (get_or symbols j 0) ∙ ap (λ (k : ℕ). m + when (values (get_or symbols j 0)) (2 ^ k)) counted in
     let p = power j in
     subst (λ (k : ℕ). On (stream_at run (numbers new) v) n ↔ (On (run live) n × (k ≡ v))) (sym more)
     (doubled (On (run live) n) (On (run guard) n) (λ w. On (stream_at run (numbers old) w) n)
-        (λ w. On (stream_at run (numbers new) w) n) (2 ^ j) m (values (get_or symbols j 0)) inside known olds
+    (λ w. On (stream_at run (numbers new) w) n) (2 ^ j) m (values (get_or symbols j 0)) inside known olds
     (λ w inside_. offs w (omega arith))
     (λ w inside_. subst (λ (k : ℕ). On (stream_at run (numbers new) (k + w)) n ↔
-        (On (stream_at run (numbers old) w) n × On (run guard) n)) size (ons w (omega arith)))
+    (On (stream_at run (numbers old) w) n × On (run guard) n)) size (ons w (omega arith)))
     v (omega arith))
 
 -- some place below i, after what was there first

@@ -1,6 +1,6 @@
 -- The circuit of one register a state as a whole: its nets in m4, its nexts in m5.
 use Rattle.std.proofs.Common.{◌≡◌, ℕ, suc, ◌+◌, ◌<◌, ◌≤◌, List, length, map, get_or, slice_get, Some, ◌⊎◌, ◌↔◌, ap, ◌∙◌}
-use Rattle.std.proofs.Common.{sym, subst, arith}
+use Rattle.std.proofs.Common.{sym, subst}
 use Rattle.std.proofs.lemmas.Option.{slice_get-get_or}
 use Rattle.std.proofs.lemmas.List.{get_or-map}
 use Rattle.circuit_core.specs.Netlist.{Netlist, IsNetOf}
@@ -8,7 +8,6 @@ use Rattle.circuit_core.specs.Run.{Run, On, InEachRun, InEachCycle}
 use Rattle.circuit_core.specs.Growth.{closed}
 use Rattle.sequence_circuits.specs.declared.states.State.{State}
 use Rattle.sequence_circuits.specs.inner.Nets.{live_nets, stream_at, IsState, AreStates, AreSet}
-use Rattle.sequence_circuits.proofs.Nets.{on_same}
 use Rattle.sequence_circuits.proofs.OneHot.{IsOneHot, Comes, one_hot}
 
 no_state : State

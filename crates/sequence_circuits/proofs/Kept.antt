@@ -1,5 +1,5 @@
 -- What is kept where netlists grow.
-use Rattle.std.specs.Prelude.{ℕ, ◌≡◌, ◌≤◌, length, slice_get}
+use Rattle.std.specs.Prelude.{ℕ}
 use Rattle.std.proofs.Common.{refl, ◌∙◌, arith}
 use Rattle.circuit_core.specs.Netlist.{Netlist}
 use Rattle.circuit_core.specs.Run.{Run, InEachCycle}

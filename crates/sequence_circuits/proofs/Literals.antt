@@ -54,7 +54,7 @@ label_more run n guards literals i d from before now lt befores nows =
     let P = λ (l : Literal). values_at run (numbers guards) n l.symbol ≡ l.positive in
     let push = all_push P (take i literals) (get_or literals i d) in (
       (λ on. let a = nows.0 on in let b = befores.0 a.0 in
-      (b.0, subst (λ (ls : List Literal). AllByRecursion P ls) (sym more) (push.1 (b.1, a.1)))),
+          (b.0, subst (λ (ls : List Literal). AllByRecursion P ls) (sym more) (push.1 (b.1, a.1)))),
       (λ h. let q = push.0 (subst (λ (ls : List Literal). AllByRecursion P ls) more h.1) in
-      nows.1 (befores.1 (h.0, q.0), q.1)),
+          nows.1 (befores.1 (h.0, q.0), q.1)),
     )

@@ -84,9 +84,9 @@ or_put run n nets place was more joined lt at joins s =
           let old : get_or (numbers nets) s 0 ≡ was.0 = ap (λ (t : ℕ). get_or (numbers nets) t 0) here
           ∙ number_at (λ (k : Net). k.0) nets place was lt at in (
             (λ on. elim (joins.0 (on_same run n _ _ there on))
-            [ inl h ↦ inl (on_same run n _ _ (sym old) h) | inr h ↦ inr (sym here, h) ]),
+                [ inl h ↦ inl (on_same run n _ _ (sym old) h) | inr h ↦ inr (sym here, h) ]),
             (λ some. on_same run n _ _ (sym there)
-            (joins.1 (elim some [ inl h ↦ inl (on_same run n _ _ old h) | inr h ↦ inr h.1 ]))),
+                (joins.1 (elim some [ inl h ↦ inl (on_same run n _ _ old h) | inr h ↦ inr h.1 ]))),
           ))
       | inr ne ↦ (let same : get_or (numbers (set nets place joined)) s 0 ≡ get_or (numbers nets) s 0 =
           number_other (λ (k : Net). k.0) nets place s joined ne in (

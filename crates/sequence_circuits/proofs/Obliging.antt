@@ -1,11 +1,11 @@
 -- Runs of an automaton of rows are paths from row to row, and maybe at the end to the failure behind them.
-use Rattle.std.proofs.Common.{◌≡◌, ℕ, zero, suc, ◌+◌, ◌-◌, ◌<◌, ◌≤◌, ◌^◌, Bool, List, [], ◌∷◌, length, map, get_or}
-use Rattle.std.proofs.Common.{slice_get, Option, Some, None, Contains, All, inl, inr, ◌⊎◌, ◌↔◌, refl, sym, ap, ◌∙◌}
+use Rattle.std.proofs.Common.{◌≡◌, ℕ, zero, suc, ◌+◌, ◌-◌, ◌<◌, ◌≤◌, ◌^◌, Bool, List, [], ◌∷◌, length, get_or}
+use Rattle.std.proofs.Common.{slice_get, Option, Some, Contains, All, inl, inr, ◌⊎◌, ◌↔◌, refl, sym, ap, ◌∙◌}
 use Rattle.std.proofs.Common.{subst}
 use Rattle.std.proofs.Common.{arith}
-use Rattle.std.proofs.lemmas.Option.{slice_get-get_or, slice_get_within}
+use Rattle.std.proofs.lemmas.Option.{slice_get-get_or}
 use Rattle.circuit_core.specs.Run.{Stream, On}
-use Rattle.circuit_core.specs.Starts.{Open, SomeStart, ComesBy, HasViolated, Pends, Answers}
+use Rattle.circuit_core.specs.Starts.{Open, Answers}
 use Rattle.first_failure.specs.declared.automaton.Next.{Next}
 use Rattle.first_failure.specs.declared.automaton.Next.TheVariants.{Fail, Done, Go}
 use Rattle.first_failure.specs.declared.automaton.FailRow.{FailRow}
@@ -97,12 +97,25 @@ pub rows_step : (auto : FailAuto) (values : ℕ → ℕ → Bool) (live : ℕ �
     → IsMovedTo (length auto.rows) auto.rows live (values n) (length auto.rows) t
     ↔ ((s : ℕ) × (s < length auto.rows) × (live s × RowSteps auto values s t n))
 rows_step auto values live t n = (
-  (λ x. (x.0, x.1, (x.4, subst (λ (y : Next). Targets y (length auto.rows) t)
-  (sym (move_at auto x.0 x.2 (values n) x.3)) x.5))),
+  (λ x. (
+    x.0,
+    x.1,
+    (
+      x.4,
+      subst (λ (y : Next). Targets y (length auto.rows) t)
+          (sym (move_at auto x.0 x.2 (values n) x.3)) x.5,
+    ),
+  )),
   (λ x. let row = get_or auto.rows x.0 none in
-  let at : slice_get auto.rows x.0 ≡ Some row = slice_get-get_or auto.rows x.0 none x.1 in
-  (x.0, x.1, row, at, x.2.0, subst (λ (y : Next). Targets y (length auto.rows) t)
-  (move_at auto x.0 row (values n) at) x.2.1)),
+      let at : slice_get auto.rows x.0 ≡ Some row = slice_get-get_or auto.rows x.0 none x.1 in (
+        x.0,
+        x.1,
+        row,
+        at,
+        x.2.0,
+        subst (λ (y : Next). Targets y (length auto.rows) t)
+            (move_at auto x.0 row (values n) at) x.2.1,
+      )),
 )
   where
     none : FailRow
@@ -131,9 +144,17 @@ module _ (auto : FailAuto) (values : ℕ → ℕ → Bool) where
           | inr went ↦ (let u : ℕ = went.0 in
               let lt : u < length auto.rows = inside s u (values i) below went.1 in
               let more = goes inside count u t (suc i) lt
-              (subst (λ (x : Next). lead auto x (cycles_from values (suc i) (suc count)) ≡ Go t) went.1 is) in
-              (more.0, (u, lt, ((target_row (next_at auto (Go s) (values i)) (length auto.rows) u lt).1 went.1,
-                  more.1))))
+              (subst (λ (x : Next). lead auto x (cycles_from values (suc i) (suc count)) ≡ Go t) went.1 is) in (
+                more.0,
+                (
+                  u,
+                  lt,
+                  (
+                    (target_row (next_at auto (Go s) (values i)) (length auto.rows) u lt).1 went.1,
+                    more.1,
+                  ),
+                ),
+              ))
         ]
       ]
 
@@ -155,9 +176,12 @@ module _ (auto : FailAuto) (values : ℕ → ℕ → Bool) where
   )
   leads_to_fail inside (suc count) s i below is =
       elim (next_cases (next_at auto (Go s) (values i))) [
-        | inl failed ↦ (0, omega arith,
-            (target_failure (next_at auto (Go s) (values i)) (length auto.rows)
-            (λ t e. inside s t (values i) below e)).1 failed)
+        | inl failed ↦ (
+          0,
+          omega arith,
+          (target_failure (next_at auto (Go s) (values i)) (length auto.rows)
+              (λ t e. inside s t (values i) below e)).1 failed,
+        )
         | inr other ↦ elim other [
           | inl done ↦ absurd (fail-done (sym
               (subst (λ (x : Next). lead auto x (cycles_from values (suc i) (suc count)) ≡ Fail) done is)
@@ -165,9 +189,15 @@ module _ (auto : FailAuto) (values : ℕ → ℕ → Bool) where
           | inr went ↦ (let u : ℕ = went.0 in
               let lt : u < length auto.rows = inside s u (values i) below went.1 in
               let more = leads_to_fail inside count u (suc i) lt
-              (subst (λ (x : Next). lead auto x (cycles_from values (suc i) (suc count)) ≡ Fail) went.1 is) in
-              (suc more.0, omega (arith, more.1), (u, lt,
-              ((target_row (next_at auto (Go s) (values i)) (length auto.rows) u lt).1 went.1, more.2))))
+              (subst (λ (x : Next). lead auto x (cycles_from values (suc i) (suc count)) ≡ Fail) went.1 is) in (
+                suc more.0,
+                omega (arith, more.1),
+                (
+                  u,
+                  lt,
+                  ((target_row (next_at auto (Go s) (values i)) (length auto.rows) u lt).1 went.1, more.2),
+                ),
+              ))
         ]
       ]
 
@@ -208,19 +238,38 @@ module _ (auto : FailAuto) (values : ℕ → ℕ → Bool) where
           let k : ℕ = i + r.0 in
           let up : k ≤ m = omega (arith, r.1, x.3.1) in
           let open_ : Open clear i k = (λ j from to. x.3.3 j from (omega (arith, up))) in
-          let same : r.0 ≡ k - i = omega arith in
-          (k, omega (arith, up, x.3.2), (is_fail k).1
-          ((arrives (length auto.rows) k (omega arith) (omega (arith, up, x.3.2))).1
-          (i, omega arith, x.2, (open_, subst
-          (λ (c : ℕ). Path (length auto.rows) Steps 0 (length auto.rows) i c) same r.2))))),
+          let same : r.0 ≡ k - i = omega arith in (
+            k,
+            omega (arith, up, x.3.2),
+            (is_fail k).1
+                ((arrives (length auto.rows) k (omega arith) (omega (arith, up, x.3.2))).1 (
+                  i,
+                  omega arith,
+                  x.2,
+                  (
+                    open_,
+                    subst
+                        (λ (c : ℕ). Path (length auto.rows) Steps 0 (length auto.rows) i c) same r.2,
+                  ),
+                )),
+          )),
     );
     pends = λ n within none. (
       (λ on. let p = (is_pend n within).0 on in
           let x = (arrives p.0 n (omega (arith, p.1)) within).0 p.2 in
-          let i : ℕ = x.0 in
-          (i, x.1, x.2, (x.3.0, (p.0,
-          subst (λ (c : ℕ). lead auto (Go 0) (cycles_from values i c) ≡ Go p.0) (sym (counted i n x.1))
-          (went_to (n - i) 0 p.0 i p.1 x.3.1))))),
+          let i : ℕ = x.0 in (
+            i,
+            x.1,
+            x.2,
+            (
+              x.3.0,
+              (
+                p.0,
+                subst (λ (c : ℕ). lead auto (Go 0) (cycles_from values i c) ≡ Go p.0) (sym (counted i n x.1))
+                    (went_to (n - i) 0 p.0 i p.1 x.3.1),
+              ),
+            ),
+          )),
       (λ x. let i : ℕ = x.0 in
           let t : ℕ = x.3.1.0 in
           let r = goes inside (n - i) 0 t i some

@@ -1,5 +1,5 @@
 -- One register a state, for any steps: what arrives at a state is what a path leads there from some open start.
-use Rattle.std.proofs.Common.{◌≡◌, ◌≢◌, ℕ, zero, suc, ◌+◌, ◌-◌, ◌<◌, ◌≤◌, inl, inr, ◌⊎◌, ◌↔◌, refl, sym, ap, ◌∙◌, subst}
+use Rattle.std.proofs.Common.{◌≡◌, ℕ, zero, suc, ◌+◌, ◌-◌, ◌<◌, ◌≤◌, inl, inr, ◌⊎◌, ◌↔◌, refl, sym, ◌∙◌, subst}
 use Rattle.std.proofs.Common.{arith}
 use Rattle.circuit_core.specs.Run.{Stream, On}
 use Rattle.circuit_core.specs.Starts.{Open, SomeStart}
@@ -47,8 +47,11 @@ module _ (states places cycles : ℕ) (Steps : (s t n : ℕ) → Type 0) (start 
         k,
         before,
         here.1,
-        (opened, subst (λ (c : ℕ). Path states Steps 0 t k c) e
-        (subst (λ (r : ℕ). Path states Steps r t k count) here.0 path)),
+        (
+          opened,
+          subst (λ (c : ℕ). Path states Steps 0 t k c) e
+              (subst (λ (r : ℕ). Path states Steps r t k count) here.0 path),
+        ),
       )
 
   -- from a state with a run back to the start that it comes from
@@ -91,8 +94,8 @@ module _ (states places cycles : ℕ) (Steps : (s t n : ℕ) → Type 0) (start 
       → (t n : ℕ) → t < places → n < cycles → On (arrive t) n ↔ Comes states Steps start clear t n
   one_hot d fits some t n there within = (
     (λ on. let a : (s : ℕ) × (s < states) × (On (live s) n × Steps s t n) = (d.arrives t n there within).0 on in
-    let off : ¬ On clear n = ((d.lives a.0 n a.1 within).0 a.2.0).1 in
-    back d fits n t within n a.0 0 (omega arith) a.1 (omega arith) a.2.0 (open_last clear n n off refl) a.2.1),
+        let off : ¬ On clear n = ((d.lives a.0 n a.1 within).0 a.2.0).1 in
+        back d fits n t within n a.0 0 (omega arith) a.1 (omega arith) a.2.0 (open_last clear n n off refl) a.2.1),
     (λ h. forth d fits n t within there (n - h.0) h.0 0 some (omega (arith, h.1))
-    ((d.lives 0 h.0 some (omega (arith, h.1))).1 (inr (refl, h.2), h.3.0 h.0 (omega arith) h.1)) h.3.0 h.3.1),
+        ((d.lives 0 h.0 some (omega (arith, h.1))).1 (inr (refl, h.2), h.3.0 h.0 (omega arith) h.1)) h.3.0 h.3.1),
   )

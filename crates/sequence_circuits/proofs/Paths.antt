@@ -1,6 +1,6 @@
 -- A table accepts along paths: what it accepts from a state leads from there to an accepting state.
-use Rattle.std.proofs.Common.{◌≡◌, ℕ, zero, suc, ◌-◌, ◌<◌, ◌≤◌, Bool, true, false, eqb, IsTrue, List, [], ◌∷◌, length}
-use Rattle.std.proofs.Common.{filter, map, get_or, Contains, cond, All, inl, inr, ◌⊎◌, ◌↔◌, refl, sym, ap, ◌∙◌, subst}
+use Rattle.std.proofs.Common.{◌≡◌, ℕ, zero, suc, ◌-◌, ◌<◌, Bool, true, false, eqb, IsTrue, List, [], ◌∷◌, length}
+use Rattle.std.proofs.Common.{filter, map, get_or, Contains, cond, All, inl, inr, ◌⊎◌, ◌↔◌, refl, sym, ap, subst}
 use Rattle.std.proofs.Common.{arith}
 use Rattle.std.proofs.lemmas.Bool.Decides.{Decides-eqb}
 use Rattle.std.proofs.lemmas.List.Elements.{All-contains}
@@ -48,8 +48,13 @@ of_step s [] label next h = absurd h
 of_step s (d ∷ edges) label next h =
     elim (told (leaves s d)) [
       | inl holds ↦ elim (subst (λ (b : Bool). Among (map step_of (cond b (d ∷ rest) rest)) (label, next)) holds h) [
-        | inl same ↦ (d, inl refl, (Decides-eqb d.from s).0 holds, ap (λ (p : List Literal × ℕ). p.0) same,
-            ap (λ (p : List Literal × ℕ). p.1) same)
+        | inl same ↦ (
+          d,
+          inl refl,
+          (Decides-eqb d.from s).0 holds,
+          ap (λ (p : List Literal × ℕ). p.0) same,
+          ap (λ (p : List Literal × ℕ). p.1) same,
+        )
         | inr more ↦ further (of_step s edges label next more)
       ]
       | inr fails ↦ further (of_step s edges label next
@@ -105,7 +110,7 @@ pub edges_step : (states : ℕ) (edges : List Edge) (letter : ℕ → Letter) (l
 edges_step states edges letter live t n between = (
   (λ a. (a.0.from, (ends states edges between a.0 a.1).0, (a.2.1, (a.0, a.1, refl, a.2.0, a.2.2)))),
   (λ x. let e = x.2.1 in
-  (e.0, e.1, (e.3, subst (λ (s : ℕ). On (live s) n) (sym e.2) x.2.0, e.4))),
+      (e.0, e.1, (e.3, subst (λ (s : ℕ). On (live s) n) (sym e.2) x.2.0, e.4))),
 )
 
 module _ (g : Graph) (letter : ℕ → Letter) where
@@ -126,8 +131,8 @@ module _ (g : Graph) (letter : ℕ → Letter) where
   step_there s next i (e, in_, from, to, passes) = (
     e.label,
     among_contains (edges_from s g.edges) (e.label, next)
-    (subst (λ (r : ℕ). Among (edges_from r g.edges) (e.label, next)) from
-    (subst (λ (u : ℕ). Among (edges_from e.from g.edges) (e.label, u)) to (to_step g.edges e in_))),
+        (subst (λ (r : ℕ). Among (edges_from r g.edges) (e.label, next)) from
+        (subst (λ (u : ℕ). Among (edges_from e.from g.edges) (e.label, u)) to (to_step g.edges e in_))),
     passes,
   )
 
@@ -162,9 +167,16 @@ module _ (g : Graph) (letter : ℕ → Letter) where
     (λ on. let f = finds.0 on in
         let x = (arrives f.0 f.1).0 f.2.1 in
         let i : ℕ = x.0 in
-        let e : suc (n - i) ≡ suc n - i = omega (arith, x.1) in
-        (i, x.1, x.2, (x.3.0, subst (λ (k : ℕ). Accepts (graph_machine g) (cycles_from letter i k)) e
-        (accepts (n - i) 0 i (f.0, f.1, (f.2.0, x.3.1)))))),
+        let e : suc (n - i) ≡ suc n - i = omega (arith, x.1) in (
+          i,
+          x.1,
+          x.2,
+          (
+            x.3.0,
+            subst (λ (k : ℕ). Accepts (graph_machine g) (cycles_from letter i k)) e
+                (accepts (n - i) 0 i (f.0, f.1, (f.2.0, x.3.1))),
+          ),
+        )),
     (λ x. let i : ℕ = x.0 in
         let e : suc n - i ≡ suc (n - i) = omega (arith, x.1) in
         let r = leads between (n - i) 0 i

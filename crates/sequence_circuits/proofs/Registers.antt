@@ -1,6 +1,6 @@
 -- States whose registers are made one after the other, and then set one after the other.
 use Rattle.std.proofs.Common.{◌≡◌, ◌≢◌, ℕ, zero, suc, ◌+◌, ◌<◌, ◌≤◌, eqb, IsTrue, List, [], ◌∷◌, ◌++◌, length, get_or}
-use Rattle.std.proofs.Common.{slice_get, Option, Some, None, IsSome, All, inl, inr, ◌⊎◌, ◌↔◌, refl, sym, ap, ◌∙◌, subst}
+use Rattle.std.proofs.Common.{slice_get, Some, IsSome, All, inl, inr, ◌⊎◌, refl, sym, ap, ◌∙◌, subst}
 use Rattle.std.proofs.Common.{arith}
 use Rattle.std.proofs.lemmas.Bool.{cases_lt}
 use Rattle.std.proofs.lemmas.Bool.Decides.{Decides-eqb}
@@ -92,7 +92,7 @@ next_open m0 m base start uncleared states nexts place h are at so_far =
       1,
       0,
       subst (λ (r : ℕ). slice_get m.registers r ≡ Some (opened 1 0)) (sym is.place)
-      (so_far.others (base + place) _ (inr (omega arith)) is.unset),
+          (so_far.others (base + place) _ (inr (omega arith)) is.unset),
     )
 
 pub next_set : (m0 m new : Netlist) (base start uncleared : ℕ) (states : List State) (nexts : List ℕ) (place : ℕ)

@@ -1,6 +1,6 @@
 -- Edges gathered by what they have in common, in one cycle.
-use Rattle.std.proofs.Common.{◌≡◌, ◌≢◌, ℕ, zero, suc, ◌+◌, ◌<◌, Bool, true, false, not, cond, ◌&&◌, eqb, List, [], ◌∷◌}
-use Rattle.std.proofs.Common.{◌++◌, length, length-append, set, take, get_or, slice_get, Some, None, All, inl, inr, ◌⊎◌}
+use Rattle.std.proofs.Common.{◌≡◌, ℕ, zero, suc, ◌+◌, ◌<◌, Bool, true, false, not, cond, List, [], ◌∷◌}
+use Rattle.std.proofs.Common.{◌++◌, length, length-append, set, take, get_or, slice_get, Some, All, inl, inr, ◌⊎◌}
 use Rattle.std.proofs.Common.{◌↔◌, refl, sym, ap, ◌∙◌, subst, arith}
 use Rattle.std.specs.Bool.{Decides}
 use Rattle.std.specs.List.{list_any}
@@ -8,7 +8,7 @@ use Rattle.std.proofs.lemmas.Bool.{cases_lt, and_parts}
 use Rattle.std.proofs.lemmas.Bool.Decides.{nat_tests, Decides-eqb}
 use Rattle.std.proofs.lemmas.List.{take_more, get_or-map}
 use Rattle.std.proofs.lemmas.List.Elements.{All-push}
-use Rattle.std.proofs.lemmas.Option.{slice_get_within, slice_get-get_or, same_Some}
+use Rattle.std.proofs.lemmas.Option.{slice_get_within, same_Some}
 use Rattle.std.proofs.lemmas.Slice.Eq.{slice_eq-Decides}
 use Rattle.indexmap.specs.IndexSet.{insert_key}
 use Rattle.auto_core.specs.declared.labels.Literal.{Literal}
@@ -111,9 +111,9 @@ pub taken_push : (run : Run) (n : ℕ) (ways : List Way) (sources : List Net) (w
     ↔ (IsOneTaken (length ways) ways run (numbers sources) a s n ⊎ IsTaken way (run live.0) a s n)
 taken_push run n ways sources way live put new a s size is_put is_new =
     subst (λ (ws : List Way). IsOneTaken (length ws) ws run (numbers new) a s n ↔ Both run n ways sources way live.0 a
-        s) (sym is_put)
+    s) (sym is_put)
     (subst (λ (ks : List Net). IsOneTaken (length (ways ++ way ∷ [])) (ways ++ way ∷ []) run (numbers ks) a s n ↔ Both
-        run n ways sources way live.0 a s) (sym is_new)
+    run n ways sources way live.0 a s) (sym is_new)
     (forth, back))
   where
     forth : IsOneTaken (length (ways ++ way ∷ [])) (ways ++ way ∷ []) run (numbers (sources ++ live ∷ [])) a s n →
@@ -121,11 +121,24 @@ taken_push run n ways sources way live put new a s size is_put is_new =
     forth x =
         elim (get_push ways way x.2 x.0 x.3) [
           | inl old ↦ (let lt : x.0 < length ways = slice_get_within ways x.0 x.2 old in
-              inl (x.0, lt, x.2, old, (x.4.0, on_same run n _ _
-              (number_before (λ (k : Net). k.0) sources x.0 live (omega (arith, size))) x.4.1, x.4.2)))
-          | inr last ↦ inr (subst (λ (w : Way). w.to ≡ s) (sym last.1) x.4.0, on_same run n _ _
-              (number_last (λ (k : Net). k.0) sources x.0 live (omega (arith, size, last.0))) x.4.1,
-              subst (λ (w : Way). Passes w.label a) (sym last.1) x.4.2)
+              inl (
+                x.0,
+                lt,
+                x.2,
+                old,
+                (
+                  x.4.0,
+                  on_same run n _ _
+                      (number_before (λ (k : Net). k.0) sources x.0 live (omega (arith, size))) x.4.1,
+                  x.4.2,
+                ),
+              ))
+          | inr last ↦ inr (
+            subst (λ (w : Way). w.to ≡ s) (sym last.1) x.4.0,
+            on_same run n _ _
+                (number_last (λ (k : Net). k.0) sources x.0 live (omega (arith, size, last.0))) x.4.1,
+            subst (λ (w : Way). Passes w.label a) (sym last.1) x.4.2,
+          )
         ]
 
     back : Both run n ways sources way live.0 a s
@@ -135,16 +148,24 @@ taken_push run n ways sources way live put new a s size is_put is_new =
       omega (arith, x.1, length-append ways (way ∷ [])),
       x.2,
       get_kept ways way x.2 x.0 x.3,
-      (x.4.0, on_same run n _ _
-      (sym (number_before (λ (k : Net). k.0) sources x.0 live (omega (arith, x.1, size)))) x.4.1, x.4.2),
+      (
+        x.4.0,
+        on_same run n _ _
+            (sym (number_before (λ (k : Net). k.0) sources x.0 live (omega (arith, x.1, size)))) x.4.1,
+        x.4.2,
+      ),
     )
     back (inr x) = (
       length ways,
       omega (arith, length-append ways (way ∷ [])),
       way,
       get_end ways way,
-      (x.0, on_same run n _ _
-      (sym (number_last (λ (k : Net). k.0) sources (length ways) live (sym size))) x.1, x.2),
+      (
+        x.0,
+        on_same run n _ _
+            (sym (number_last (λ (k : Net). k.0) sources (length ways) live (sym size))) x.1,
+        x.2,
+      ),
     )
 
 -- a way that is there, whose source takes in one net more
@@ -156,9 +177,9 @@ pub taken_join : (run : Run) (n : ℕ) (ways : List Way) (sources : List Net) (w
     ↔ (IsOneTaken (length ways) ways run (numbers sources) a s n ⊎ IsTaken way (run live) a s n)
 taken_join run n ways sources way live put new place was joined a s size is_put is_new lt at there joins =
     subst (λ (ws : List Way). IsOneTaken (length ws) ws run (numbers new) a s n ↔ Both run n ways sources way live a
-        s) (sym is_put)
+    s) (sym is_put)
     (subst (λ (ks : List Net). IsOneTaken (length ways) ways run (numbers ks) a s n ↔ Both run n ways sources way live
-        a s) (sym is_new)
+    a s) (sym is_new)
     (forth, back))
   where
     old : get_or (numbers sources) place 0 ≡ was.0
@@ -176,25 +197,67 @@ taken_join run n ways sources way live put new place was joined a s size is_put 
               let same : x.2 ≡ way = same_Some x.2 way
               (sym x.3 ∙ ap (λ (t : ℕ). slice_get ways t) here ∙ there) in
               elim (joins.0 on) [
-                | inl h ↦ inl (x.0, x.1, x.2, x.3, (x.4.0, on_same run n _ _
-                    (sym old ∙ ap (λ (t : ℕ). get_or (numbers sources) t 0) (sym here)) h, x.4.2))
-                | inr h ↦ inr (subst (λ (w : Way). w.to ≡ s) same x.4.0, h,
-                    subst (λ (w : Way). Passes w.label a) same x.4.2)
+                | inl h ↦ inl (
+                  x.0,
+                  x.1,
+                  x.2,
+                  x.3,
+                  (
+                    x.4.0,
+                    on_same run n _ _
+                        (sym old ∙ ap (λ (t : ℕ). get_or (numbers sources) t 0) (sym here)) h,
+                    x.4.2,
+                  ),
+                )
+                | inr h ↦ inr (
+                  subst (λ (w : Way). w.to ≡ s) same x.4.0,
+                  h,
+                  subst (λ (w : Way). Passes w.label a) same x.4.2,
+                )
               ])
-          | inr ne ↦ inl (x.0, x.1, x.2, x.3, (x.4.0, on_same run n _ _
-              (number_other (λ (k : Net). k.0) sources place x.0 joined ne) x.4.1, x.4.2))
+          | inr ne ↦ inl (
+            x.0,
+            x.1,
+            x.2,
+            x.3,
+            (
+              x.4.0,
+              on_same run n _ _
+                  (number_other (λ (k : Net). k.0) sources place x.0 joined ne) x.4.1,
+              x.4.2,
+            ),
+          )
         ]
 
     back : Both run n ways sources way live a s → IsOneTaken (length ways) ways run
         (numbers (set sources place joined)) a s n
     back (inl x) =
         elim (same_or_not x.0 place) [
-          | inl here ↦ (x.0, x.1, x.2, x.3, (x.4.0, on_same run n _ _
-              (sym now ∙ ap (λ (t : ℕ). get_or (numbers (set sources place joined)) t 0) (sym here))
-              (joins.1 (inl (on_same run n _ _ (ap (λ (t : ℕ). get_or (numbers sources) t 0) here ∙ old) x.4.1))),
-                  x.4.2))
-          | inr ne ↦ (x.0, x.1, x.2, x.3, (x.4.0, on_same run n _ _
-              (sym (number_other (λ (k : Net). k.0) sources place x.0 joined ne)) x.4.1, x.4.2))
+          | inl here ↦ (
+            x.0,
+            x.1,
+            x.2,
+            x.3,
+            (
+              x.4.0,
+              on_same run n _ _
+                  (sym now ∙ ap (λ (t : ℕ). get_or (numbers (set sources place joined)) t 0) (sym here))
+                  (joins.1 (inl (on_same run n _ _ (ap (λ (t : ℕ). get_or (numbers sources) t 0) here ∙ old) x.4.1))),
+              x.4.2,
+            ),
+          )
+          | inr ne ↦ (
+            x.0,
+            x.1,
+            x.2,
+            x.3,
+            (
+              x.4.0,
+              on_same run n _ _
+                  (sym (number_other (λ (k : Net). k.0) sources place x.0 joined ne)) x.4.1,
+              x.4.2,
+            ),
+          )
         ]
     back (inr x) = (
       place,
@@ -229,11 +292,17 @@ edges_more edges i e live letter s n before now lt is befores nows =
     let more : take (i + 1) edges ≡ take i edges ++ e ∷ [] =
     take_more edges i e lt ∙ ap (λ (f : Edge). take i edges ++ f ∷ []) (sym is) in (
       (λ h. elim (nows.0 h) [
-        | inl b ↦ (let x = befores.0 b in
-            (x.0, subst (λ (es : List Edge). Among es x.0) (sym more) (among_left (take i edges) (e ∷ []) x.0 x.1),
-                x.2))
-        | inr t ↦ (e, subst (λ (es : List Edge). Among es e) (sym more)
-            (among_right (take i edges) (e ∷ []) e (inl refl)), t)
+        | inl b ↦ (let x = befores.0 b in (
+          x.0,
+          subst (λ (es : List Edge). Among es x.0) (sym more) (among_left (take i edges) (e ∷ []) x.0 x.1),
+          x.2,
+        ))
+        | inr t ↦ (
+          e,
+          subst (λ (es : List Edge). Among es e) (sym more)
+              (among_right (take i edges) (e ∷ []) e (inl refl)),
+          t,
+        )
       ]),
       (λ x. elim (among_append (take i edges) (e ∷ []) x.0 (subst (λ (es : List Edge). Among es x.0) more x.1)) [
         | inl old ↦ nows.1 (inl (befores.1 (x.0, old, x.2)))
@@ -259,9 +328,11 @@ ways_more run n ways i way sources a s first before now at befores nows = (
       | inl lt ↦ nows.1 (inl (befores.1 (inr (x.0, lt, x.2, x.3, x.4))))
       | inr ge ↦ (let here : x.0 ≡ i = omega (arith, x.1, ge) in
           let same : x.2 ≡ way = same_Some x.2 way (sym x.3 ∙ ap (λ (t : ℕ). slice_get ways t) here ∙ at) in
-          nows.1 (inr (subst (λ (w : Way). w.to ≡ s) same x.4.0,
-          on_same run n _ _ (ap (λ (t : ℕ). get_or (numbers sources) t 0) here ∙ sym (number_of sources i)) x.4.1,
-          subst (λ (w : Way). Passes w.label a) same x.4.2)))
+          nows.1 (inr (
+            subst (λ (w : Way). w.to ≡ s) same x.4.0,
+            on_same run n _ _ (ap (λ (t : ℕ). get_or (numbers sources) t 0) here ∙ sym (number_of sources i)) x.4.1,
+            subst (λ (w : Way). Passes w.label a) same x.4.2,
+          )))
     ]
   ]),
 )

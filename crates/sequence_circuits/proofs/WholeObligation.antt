@@ -1,8 +1,8 @@
 -- The check of an automaton of rows as a whole: its nets in m4, its nexts in m5.
-use Rattle.std.proofs.Common.{◌≡◌, ℕ, ◌+◌, ◌<◌, ◌≤◌, List, length, get_or, All, ◌↔◌, refl, sym, ap, ◌∙◌, subst, arith}
+use Rattle.std.proofs.Common.{◌≡◌, ℕ, ◌+◌, ◌<◌, List, length, get_or, ◌↔◌, sym, subst, arith}
 use Rattle.circuit_core.specs.declared.nodes.Net.{Net}
 use Rattle.circuit_core.specs.Netlist.{Netlist}
-use Rattle.circuit_core.specs.Run.{Run, On, InEachRun, InEachCycle}
+use Rattle.circuit_core.specs.Run.{On, InEachRun, InEachCycle}
 use Rattle.circuit_core.specs.Starts.{Answers}
 use Rattle.first_failure.specs.declared.automaton.FailRow.{FailRow}
 use Rattle.first_failure.specs.declared.automaton.FailAuto.{FailAuto}
@@ -37,7 +37,7 @@ answered auto m4 m5 base start clear uncleared states arrivals guards fail pend 
     set
     opposite moved pends inputs run r5 =
     answers auto (values_at run guards) inside some (length inputs.trace) (run start) (run clear) (run fail.0)
-        (run pend)
+    (run pend)
     (stream_at run (numbers arrivals))
     (λ t n below within. subst (λ (k : ℕ). On (stream_at run (numbers arrivals) t) n
     ↔ Comes k (RowSteps auto (values_at run guards)) (run start) (run clear) t n) counted

@@ -38,8 +38,8 @@ fn accepted_net(net: &mut Netlist, table: &Table, arrivals: &[Net]) -> Result<Ne
 /// On in each cycle up to which some start has no cleared cycle, its own and this one included, if the table accepts
 /// what the guards show from that start to this cycle. `guards` has a net for each symbol, by the symbol's number.
 ///
-/// It makes a register of one bit for each state of the table. Time and memory grow with the number of states, edges and
-/// literals: edges that lead to one state under one label share a conjunction.
+/// It makes a register of one bit for each state of the table. Time and memory grow with the number of states, edges
+/// and literals: edges that lead to one state under one label share a conjunction.
 pub fn detect(
     alloc: Global,
     net: &mut Netlist,

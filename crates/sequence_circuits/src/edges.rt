@@ -73,12 +73,7 @@ fn and_literal(
 }
 
 // On where `from` is and the label holds.
-fn label_net(
-    net: &mut Netlist,
-    guards: &[Net],
-    label: &Label,
-    from: Net,
-) -> Result<Net, AllocError>
+fn label_net(net: &mut Netlist, guards: &[Net], label: &Label, from: Net) -> Result<Net, AllocError>
     requires guards { All (λ k. IsNet net.old k.0) guards.now }
     requires symbols { All (λ l. l.symbol < length guards.now) label.now }
     requires from { IsNet net.old from.0 }

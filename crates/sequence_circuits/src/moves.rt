@@ -17,12 +17,7 @@ use first_failure::{FailRow, Next};
 use std::alloc::{AllocError, Global};
 
 // Joins a net with the one at a place.
-fn put_or(
-    net: &mut Netlist,
-    place: usize,
-    more: Net,
-    nets: &mut Vec<Net>,
-) -> Result<(), AllocError>
+fn put_or(net: &mut Netlist, place: usize, more: Net, nets: &mut Vec<Net>) -> Result<(), AllocError>
     requires more { IsNet net.old more.0 }
     requires nets { All (λ k. IsNet net.old k.0) nets.old.items }
     requires place { place < length nets.old.items }

@@ -11,8 +11,8 @@ ghost use Rattle.sequence_circuits.specs.inner.Nets.{IsLive, AreStates, AreSet};
 use circuit_core::{Net, Netlist, Reg};
 use std::alloc::{AllocError, Global};
 
-/// A state of runs: a register that is on where a run came to the state in the cycle before, the register's net, and the
-/// net that is on where a run is in the state.
+/// A state of runs: a register that is on where a run came to the state in the cycle before, the register's net, and
+/// the net that is on where a run is in the state.
 #[derive(Clone, Copy, Debug)]
 pub(crate) struct State {
     pub(crate) register: Reg,
@@ -21,7 +21,12 @@ pub(crate) struct State {
 }
 
 // On where one of two nets is, of which the second counts only if it is wanted.
-pub(crate) fn or_if(net: &mut Netlist, others: Net, wanted: bool, more: Net) -> Result<Net, AllocError>
+pub(crate) fn or_if(
+    net: &mut Netlist,
+    others: Net,
+    wanted: bool,
+    more: Net,
+) -> Result<Net, AllocError>
     requires others { IsNet net.old others.0 }
     requires more { IsNet net.old more.0 }
     ensures kept { Extends net.old net.new }

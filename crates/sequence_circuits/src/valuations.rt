@@ -39,12 +39,7 @@ fn put_both(
 }
 
 // Each net where the guard is off, and after these each where it is on.
-fn split(
-    alloc: Global,
-    net: &mut Netlist,
-    nets: &[Net],
-    guard: Net,
-) -> Result<Vec<Net>, AllocError>
+fn split(alloc: Global, net: &mut Netlist, nets: &[Net], guard: Net) -> Result<Vec<Net>, AllocError>
     requires nets { All (λ k. IsNet net.old k.0) nets.now }
     requires guard { IsNet net.old guard.0 }
     ensures kept { Extends net.old net.new }

@@ -1,6 +1,6 @@
 -- States of runs as nets: each has a register, which is on where a run came to the state in the cycle before, and a net
 -- that is on where a run is in it.
-use Rattle.std.specs.Prelude.{ℕ, suc, ◌≡◌, ◌⊎◌, ◌↔◌, ◌+◌, ◌<◌, ◌≤◌, List, Some, map, length, slice_get, slice_index_or}
+use Rattle.std.specs.Prelude.{ℕ, ◌≡◌, ◌⊎◌, ◌↔◌, ◌+◌, ◌<◌, ◌≤◌, List, Some, map, length, slice_get, slice_index_or}
 use Rattle.circuit_core.specs.Netlist.{Netlist, Register, IsNet, IsNetOf}
 use Rattle.circuit_core.specs.Run.{Stream, Run, On, IsRunOf, InEachRun, InEachCycle}
 use Rattle.circuit_core.specs.Growth.{opened, closed}

@@ -1,10 +1,8 @@
-use Rattle.std.proofs.Common.{◌≡◌, ◌↔◌, ◌<◌, ◌≤◌, ◌+◌, ℕ, All, IsTrue, false, length, get_or, List, sym, ap, ◌∙◌, subst}
+use Rattle.std.proofs.Common.{◌≡◌, ◌<◌, ◌+◌, ℕ, All, length, get_or, List, sym, ap, ◌∙◌, subst}
 use Rattle.std.proofs.Common.{arith}
-use Rattle.auto_core.specs.declared.tables.Edge.{Edge}
 use Rattle.auto_core.specs.Graph.{Graph}
 use Rattle.circuit_core.specs.declared.nodes.Net.{Net}
-use Rattle.circuit_core.specs.Netlist.{Netlist, IsNet}
-use Rattle.circuit_core.specs.Run.{On}
+use Rattle.circuit_core.specs.Netlist.{IsNet}
 use Rattle.circuit_core.specs.Growth.{Extends, Grows}
 use Rattle.sequence_circuits.specs.declared.states.State.{State}
 use Rattle.sequence_circuits.specs.Guards.{numbers}
@@ -50,7 +48,7 @@ set_nexts-requires-clause-states c =
       c.args.start.0,
       c.in_ok-uncleared.uncleared.0,
       are_kept_in c.make_states.new.net c.accepted_net.new.net _ _ _ c.in_ok-states.states.items c.as_slice-3.result.now
-      c.as_slice-3.ensures.value x24 c.in_ok-states.ensures.states,
+          c.as_slice-3.ensures.value x24 c.in_ok-states.ensures.states,
     )
 
 pub set_nexts-requires-clause-nexts : goal.set_nexts-requires-clause-nexts

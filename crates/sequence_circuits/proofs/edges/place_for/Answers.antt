@@ -1,4 +1,4 @@
-use Rattle.std.proofs.Common.{◌≡◌, ◌<◌, List, Some, length, slice_get, sym, ap, ◌∙◌}
+use Rattle.std.proofs.Common.{◌≡◌, List, Some, slice_get, sym, ap, ◌∙◌}
 use Rattle.std.proofs.lemmas.Option.{slice_get_within}
 use Rattle.sequence_circuits.specs.declared.edges.Way.{Way}
 use Rattle.sequence_circuits.proofs.Ways.{same_ways, put_new, put_known, not_false, not_true}
@@ -17,7 +17,7 @@ returns-clause-known c e =
     let stored = c.in_ok-place.ensures.stored in (
       same,
       ap (λ (ws : List Way). slice_get ws c.in_ok-place.place) (sym same) ∙ stored.1
-      ∙ ap (λ (w : Way). Some w) (sym (same_ways c.args.way stored.0 stored.2)),
+          ∙ ap (λ (w : Way). Some w) (sym (same_ways c.args.way stored.0 stored.2)),
     )
 
 pub returns-clause-within : goal.returns-clause-within

@@ -5,7 +5,7 @@ use Rattle.sequence_circuits.specs.declared.edges.Way.{Way}
 use Rattle.sequence_circuits.specs.Guards.{numbers}
 use Rattle.sequence_circuits.specs.Detection.{letter_at}
 use Rattle.sequence_circuits.specs.inner.Nets.{stream_at}
-use Rattle.sequence_circuits.specs.inner.Edges.{IsWithin, IsOneTaken}
+use Rattle.sequence_circuits.specs.inner.Edges.{IsOneTaken}
 use Rattle.sequence_circuits.proofs.Kept.{extends_trans}
 use Rattle.sequence_circuits.proofs.Ways.{ways_more}
 use Rattle.sequence_circuits.proofs.edges.take_ways.Goals as goal

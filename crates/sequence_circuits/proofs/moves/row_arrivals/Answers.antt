@@ -1,4 +1,4 @@
-use Rattle.std.proofs.Common.{◌≡◌, ◌+◌, length, List, ap, ◌∙◌}
+use Rattle.std.proofs.Common.{◌+◌, length, List, ap, ◌∙◌}
 use Rattle.std.proofs.lemmas.List.{length-replicate}
 use Rattle.circuit_core.specs.declared.nodes.Net.{Net}
 use Rattle.circuit_core.specs.Run.{On}

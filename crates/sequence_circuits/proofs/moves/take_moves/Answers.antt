@@ -24,18 +24,19 @@ loop-place-preserved c =
       nets = c.in_ok-take_move.ensures.nets;
       stream = λ inputs run h n within s.
           below_more i (λ v. Targets (get_or c.args.nexts.now v Fail) c.args.failure s × On
-              (stream_at run (numbers taken) v) n) _ _ _ _
+          (stream_at run (numbers taken) v) n) _ _ _ _
           (c.loop-place.invariant.stream inputs run (c.in_ok-take_move.ensures.kept.runs inputs run h) n within s)
-          (c.in_ok-take_move.ensures.stream inputs run h n within s)
-          ((λ p. (p.0, on_same run n _ _ (number_of taken i) p.1)),
-              (λ p. (p.0, on_same run n _ _ (sym (number_of taken i)) p.1)));
+          (c.in_ok-take_move.ensures.stream inputs run h n within s) (
+            (λ p. (p.0, on_same run n _ _ (number_of taken i) p.1)),
+            (λ p. (p.0, on_same run n _ _ (sym (number_of taken i)) p.1)),
+          );
     }
 
 pub returns-clause-stream : goal.returns-clause-stream
 returns-clause-stream c inputs run h n within s =
     let all : c.loop-place.place ≡ length c.args.nexts.now = omega arith in
     subst (λ (i : ℕ). On (stream_at run (numbers c.loop-place.arrivals.items) s) n ↔
-        (On (stream_at run (numbers c.args.arrivals.now.items) s) n ⊎
-        ((v : ℕ) × (v < i) × (Targets (get_or c.args.nexts.now v Fail) c.args.failure s × On
-        (stream_at run (numbers c.args.taken.now) v) n)))) all
+    (On (stream_at run (numbers c.args.arrivals.now.items) s) n ⊎
+    ((v : ℕ) × (v < i) × (Targets (get_or c.args.nexts.now v Fail) c.args.failure s × On
+    (stream_at run (numbers c.args.taken.now) v) n)))) all
     (c.loop-place.invariant.stream inputs run h n within s)

@@ -17,6 +17,6 @@ invariant-loop-place l = record {
   stream : InEachCycle l.net (λ run n. (s : ℕ) →
       On (stream_at run (numbers l.arrivals.items) s) n
       ↔ (On (stream_at run (numbers l.fn.arrivals.items) s) n ⊎
-          ((v : ℕ) × (v < l.place) × (Targets (slice_index_or l.nexts v Fail) l.failure s × On
-          (stream_at run (numbers l.taken) v) n))));
+      ((v : ℕ) × (v < l.place) × (Targets (slice_index_or l.nexts v Fail) l.failure s × On
+      (stream_at run (numbers l.taken) v) n))));
 }

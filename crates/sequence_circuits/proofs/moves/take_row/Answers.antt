@@ -1,4 +1,4 @@
-use Rattle.std.proofs.Common.{◌≡◌, ◌+◌, ◌^◌, length, List, ap, ◌∙◌, sym, subst, All, ℕ, ◌<◌}
+use Rattle.std.proofs.Common.{◌^◌, length, List, ap, ◌∙◌, sym, subst, All, ℕ, ◌<◌}
 use Rattle.circuit_core.specs.declared.nodes.Net.{Net}
 use Rattle.circuit_core.specs.Run.{On}
 use Rattle.first_failure.specs.declared.automaton.Next.{Next}

@@ -1,6 +1,6 @@
-use Rattle.std.proofs.Common.{◌≡◌, ◌↔◌, ◌<◌, ◌≤◌, ◌+◌, ℕ, All, length, get_or, List, sym, ap, ◌∙◌, subst, arith}
+use Rattle.std.proofs.Common.{◌≡◌, ◌<◌, ◌+◌, ℕ, All, length, get_or, List, sym, ap, ◌∙◌, subst, arith}
 use Rattle.circuit_core.specs.declared.nodes.Net.{Net}
-use Rattle.circuit_core.specs.Netlist.{Netlist, IsNet}
+use Rattle.circuit_core.specs.Netlist.{IsNet}
 use Rattle.circuit_core.specs.Growth.{Extends, Grows}
 use Rattle.first_failure.specs.declared.automaton.FailRow.{FailRow}
 use Rattle.first_failure.specs.declared.automaton.FailAuto.{FailAuto}
@@ -10,7 +10,7 @@ use Rattle.sequence_circuits.specs.inner.Nets.{AreStates, AreSet}
 use Rattle.sequence_circuits.specs.inner.Moves.{IsRowIn}
 use Rattle.sequence_circuits.proofs.Kept.{extends_trans, cycles_kept}
 use Rattle.sequence_circuits.proofs.Registers.{are_kept_in, live_all, grows_set}
-use Rattle.sequence_circuits.proofs.Obliging.{Inside, rows_in, inside_of}
+use Rattle.sequence_circuits.proofs.Obliging.{rows_in, inside_of}
 use Rattle.sequence_circuits.proofs.WholeObligation.{obliged}
 use Rattle.sequence_circuits.proofs.obligation.oblige.Goals as goal
 
@@ -52,7 +52,7 @@ set_nexts-requires-clause-states c =
       c.args.start.0,
       c.in_ok-uncleared.uncleared.0,
       are_kept_in c.make_states.new.net c.any_net.new.net _ _ _ c.in_ok-states.states.items c.as_slice-3.result.now
-      c.as_slice-3.ensures.value x24 c.in_ok-states.ensures.states,
+          c.as_slice-3.ensures.value x24 c.in_ok-states.ensures.states,
     )
 
 pub set_nexts-requires-clause-nexts : goal.set_nexts-requires-clause-nexts

@@ -25,15 +25,15 @@ loop-each-preserved c =
       nets = subst (All (λ k. IsNet m2 k.0)) (sym pushed)
           (All-push (λ k. IsNet m2 k.0) onto joined
           (λ k d below. let old : (get_or onto k d).0 < length c.loop-each.net.nodes = c.loop-each.invariant.nets k d
-              below in let more = c.in_ok-joined.ensures.kept.more_nodes in omega arith)
+          below in let more = c.in_ok-joined.ensures.kept.more_nodes in omega arith)
           c.in_ok-joined.ensures.net);
       before = λ s below. ap (λ (ks : List Net). get_or (numbers ks) s 0) pushed ∙ number_before (λ (k : Net). k.0)
           onto s joined (omega (arith, c.loop-each.invariant.size)) ∙ c.loop-each.invariant.before s below;
       stream = λ inputs run h n within v below.
           subst (λ (ks : List Net). On (stream_at run (numbers ks) (length c.args.onto.now.items + v)) n ↔
-              (On (stream_at run (numbers c.args.nets.now) v) n × On (run c.args.guard.0) n)) (sym pushed)
+          (On (stream_at run (numbers c.args.nets.now) v) n × On (run c.args.guard.0) n)) (sym pushed)
           (both_push run n c.args.nets.now onto (length c.args.onto.now.items) c.loop-each.each-index c.args.guard.0
-              joined c.loop-each.invariant.size
+          joined c.loop-each.invariant.size
           (c.loop-each.invariant.stream inputs run (c.in_ok-joined.ensures.kept.runs inputs run h) n within)
           (c.in_ok-joined.ensures.stream inputs run h n within)
           v below);

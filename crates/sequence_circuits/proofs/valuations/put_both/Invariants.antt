@@ -16,5 +16,5 @@ invariant-loop-each l = record {
       (numbers l.fn.onto.items) s 0;
   stream : InEachCycle l.net (λ run n. (v : ℕ) → v < l.each-index →
       On (stream_at run (numbers l.onto.items) (length l.fn.onto.items + v)) n ↔
-          (On (stream_at run (numbers l.nets) v) n × On (run l.guard.0) n));
+      (On (stream_at run (numbers l.nets) v) n × On (run l.guard.0) n));
 }

@@ -19,7 +19,7 @@ pub loop-symbol-init : goal.loop-symbol-init
 loop-symbol-init c =
     let m = c.args.net.now in
     let is : c.push.new.self.items ≡ c.args.live ∷ [] = c.in_ok-push.ensures.items ∙ ap
-        (λ (ks : List Net). ks ++ c.args.live ∷ []) c.new-nets.ensures.items in
+    (λ (ks : List Net). ks ++ c.args.live ∷ []) c.new-nets.ensures.items in
     record {
       kept = extends_self m;
       registers = refl;
@@ -35,7 +35,7 @@ loop-symbol-preserved c =
     let j = c.loop-symbol.symbol-index in
     let old = c.as_slice.result.now in
     let size : length old ≡ 2 ^ j = ap (λ (ks : List Net). length ks) c.as_slice.ensures.value ∙
-        c.loop-symbol.invariant.size in
+    c.loop-symbol.invariant.size in
     record {
       kept = extends_trans _ _ _ c.loop-symbol.invariant.kept c.in_ok-nets.ensures.kept;
       registers = c.in_ok-nets.ensures.registers ∙ c.loop-symbol.invariant.registers;
@@ -43,11 +43,11 @@ loop-symbol-preserved c =
       nets = c.in_ok-nets.ensures.nets;
       stream = λ inputs run h n within v below.
           valuation_more run n (numbers c.args.guards.now) c.args.symbols.now j c.args.live.0 _ old
-              c.in_ok-nets.nets.items c.loop-symbol-test.true size
+          c.in_ok-nets.nets.items c.loop-symbol-test.true size
           (literal_on run n c.args.guards.now (get_or c.args.symbols.now j 0) true refl)
           (subst (λ (ks : List Net). (w : ℕ) → w < 2 ^ j → On (stream_at run (numbers ks) w) n ↔
-              (On (run c.args.live.0) n × (move_number (values_at run (numbers c.args.guards.now) n)
-              (take j c.args.symbols.now) ≡ w))) (sym c.as_slice.ensures.value)
+          (On (run c.args.live.0) n × (move_number (values_at run (numbers c.args.guards.now) n)
+          (take j c.args.symbols.now) ≡ w))) (sym c.as_slice.ensures.value)
           (c.loop-symbol.invariant.stream inputs run (c.in_ok-nets.ensures.kept.runs inputs run h) n within))
           (c.in_ok-nets.ensures.off inputs run h n within)
           (c.in_ok-nets.ensures.on inputs run h n within)
@@ -60,5 +60,5 @@ returns-clause-stream c inputs run h n within v below =
     let all : take j c.args.symbols.now ≡ c.args.symbols.now = take_all j _ c.loop-symbol-test.false in
     let counted : length c.args.symbols.now ≡ j = omega arith in
     subst (λ (ss : List ℕ). On (stream_at run (numbers c.loop-symbol.nets.items) v) n ↔
-        (On (run c.args.live.0) n × (move_number (values_at run (numbers c.args.guards.now) n) ss ≡ v))) all
+    (On (run c.args.live.0) n × (move_number (values_at run (numbers c.args.guards.now) n) ss ≡ v))) all
     (c.loop-symbol.invariant.stream inputs run h n within v (subst (λ (k : ℕ). v < 2 ^ k) counted below))

@@ -16,6 +16,6 @@ invariant-loop-symbol l = record {
   nets : All (λ k. IsNet l.net k.0) l.nets.items;
   stream : InEachCycle l.net (λ run n. (v : ℕ) → v < 2 ^ l.symbol-index →
       On (stream_at run (numbers l.nets.items) v) n ↔
-          (On (run l.fn.live.0) n × (move_number (values_at run (numbers l.guards) n) (take l.symbol-index l.symbols)
-          ≡ v)));
+      (On (run l.fn.live.0) n × (move_number (values_at run (numbers l.guards) n) (take l.symbol-index l.symbols)
+      ≡ v)));
 }
