@@ -1,0 +1,14 @@
+pub mod Kept
+pub mod Nets
+pub mod Registers
+pub mod Literals
+pub mod Ways
+pub mod OneHot
+pub mod Paths
+pub mod Frame
+pub mod Detecting
+pub mod PutBoth
+pub mod Doubling
+pub mod Targeting
+pub mod Obliging
+pub mod WholeObligation

@@ -1,0 +1,4 @@
+pub mod Guards
+pub mod Detection
+pub mod Obligation
+pub mod inner
