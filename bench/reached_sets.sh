@@ -17,8 +17,9 @@ mkdir -p $crate/src $crate/proofs
 cp crates/first_failure_examples/src/tables.rt $crate/src
 cp -r crates/first_failure_examples/proofs/tables $crate/proofs
 find $crate -name '*.antt' -exec sed -i 's/first_failure_examples/sets_bench/g' {} +
-sed -i '/^\/\/ The choice of as many first symbols/,/^}/d; s/pub(crate) fn together/pub fn together/' $crate/src/tables.rt
-sed -i 's/fn delayed(alloc: Global, letters: usize)/fn delayed(alloc: Global, letters: usize, symbol: usize)/
+sed -i '/^\/\/ The choice of as many first symbols/,/^}/d
+    s/pub(crate) fn together/pub fn together/
+    s/fn delayed(alloc: Global, letters: usize)/fn delayed(alloc: Global, letters: usize, symbol: usize)/
     s/let last = symbol_table(alloc, 1)?;/let last = symbol_table(alloc, symbol)?;/
     s/, 5000)/, 8192)/' $crate/src/tables.rt
 cat > $crate/src/main.rt <<'RATTLE'
