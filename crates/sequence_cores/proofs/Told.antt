@@ -15,7 +15,7 @@ factor_past a zero c some past =
     ap (λ (x : ℕ). min a c * x) (zero-min c) ∙ mul-zero (min a c) in
     ap (λ (x : ℕ). min x c) (none ∙ sym (mul-zero a))
 factor_past a (suc b) c some past =
-    let is : min a c ≡ c = min-eq_right {c} {a} (omega arith) in
+    let is : min a c ≡ c = min-eq_right {n = c} {m = a} (omega arith) in
     let other : 0 < min (suc b) c = omega arith in
     let told_past : c ≤ min a c * min (suc b) c =
     subst (λ (x : ℕ). c ≤ x * min (suc b) c) (sym is) (le-mul_of_pos_right c other) in
@@ -32,8 +32,8 @@ products_meet a b c some = pick (cases_lt c a) (cases_lt c b)
         ap (λ (x : ℕ). min x c) (mul_comm (min a c) (min b c)) ∙ factor_past b a c some past
         ∙ ap (λ (x : ℕ). min x c) (mul_comm b a)
     pick (inr within) (inr other) =
-        ap (λ (x : ℕ). min (x * min b c) c) (min-eq_left {a} {c} within)
-        ∙ ap (λ (x : ℕ). min (a * x) c) (min-eq_left {b} {c} other)
+        ap (λ (x : ℕ). min (x * min b c) c) (min-eq_left within)
+        ∙ ap (λ (x : ℕ). min (a * x) c) (min-eq_left other)
 
 -- of parts as they are told
 pub sum_told : (t u a b : ℕ) → t ≡ told a → u ≡ told b → told (t + u) ≡ told (a + b)

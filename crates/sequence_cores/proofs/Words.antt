@@ -180,7 +180,7 @@ module _ (widths : List ℕ) (between : Between widths) (at_least : AtLeast widt
           (padded_kept (concat sugar.anything r) (concat sugar.anything r') (later_kept r r' f)) g
 
   pub counted_kept : (r : sere.Sere) → Keeps (meant_core (counted_as r)) (sugar.core_of r)
-  counted_kept (sere.bool e) w p = p
+  counted_kept (sere.bool e) = itself_keeps (sugar.core_of (sere.bool e))
   counted_kept (sere.concat r s) =
       concat_keeps (meant_core (counted_as r)) (sugar.core_of r) (meant_core (counted_as s)) (sugar.core_of s)
           (counted_kept r) (counted_kept s)
@@ -209,7 +209,7 @@ module _ (widths : List ℕ) (between : Between widths) (at_least : AtLeast widt
           (itself_keeps (meant_core (counted.without e)))
 
   pub kept_counted : (r : sere.Sere) → Keeps (sugar.core_of r) (meant_core (counted_as r))
-  kept_counted (sere.bool e) w p = p
+  kept_counted (sere.bool e) = itself_keeps (sugar.core_of (sere.bool e))
   kept_counted (sere.concat r s) =
       concat_keeps (sugar.core_of r) (meant_core (counted_as r)) (sugar.core_of s) (meant_core (counted_as s))
           (kept_counted r) (kept_counted s)

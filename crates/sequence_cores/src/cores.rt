@@ -79,8 +79,14 @@ fn counted(alloc: Global, sere: &Sere) -> Result<CoreSere, AllocError>
         Sere::Both(left, right) => {
             Ok(CoreSere::Both(part(alloc, left)?, part(alloc, right)?))
         }
-        Sere::Meet(left, right) => meet(alloc, left, right),
-        Sere::Within(left, right) => within(alloc, left, right),
+        Sere::Meet(left, right) => {
+            let left_longer = left_longer(alloc, part(alloc, left)?, part(alloc, right)?)?;
+            let right_longer = right_longer(alloc, part(alloc, left)?, part(alloc, right)?)?;
+            Ok(CoreSere::Or(left_longer, right_longer))
+        }
+        Sere::Within(left, right) => {
+            within(alloc, part(alloc, left)?, part(alloc, right)?)
+        }
         Sere::Repeat(body, low, high) => repeat(alloc, body, *low, *high),
         Sere::Goto(expr, low, high) => goto(alloc, expr, *low, *high),
         Sere::Equal(expr, low, high) => {
@@ -97,39 +103,6 @@ fn part(alloc: Global, sere: &Subsere) -> Result<Subcore, AllocError>
     ensures { IfOk result (λ part. part ≡ counted_as sere.now) }
 {
     Subcore::new(alloc, counted(alloc, sere.get())?)
-}
-
-// `{left && {right;[*]}} | {{left;[*]} && right}`
-#[cycle(counted)]
-fn meet(alloc: Global, left: &Subsere, right: &Subsere) -> Result<CoreSere, AllocError>
-    ensures { IfOk result (λ made. core_of made ≡
-        tree.or (tree.both (counted_as left.now) (tree.concat (counted_as right.now) anything))
-        (tree.both (tree.concat (counted_as left.now) anything) (counted_as right.now))) }
-{
-    let right_longer = {
-        let padded = padded(alloc, part(alloc, right)?)?;
-        CoreSere::Both(part(alloc, left)?, padded)
-    };
-    let left_longer = {
-        let padded = padded(alloc, part(alloc, left)?)?;
-        CoreSere::Both(padded, part(alloc, right)?)
-    };
-    Ok(CoreSere::Or(
-        Subcore::new(alloc, right_longer)?,
-        Subcore::new(alloc, left_longer)?,
-    ))
-}
-
-// `{[*];left;[*]} && right`
-#[cycle(counted)]
-fn within(alloc: Global, left: &Subsere, right: &Subsere) -> Result<CoreSere, AllocError>
-    ensures { IfOk result (λ made. core_of made ≡
-        tree.both (tree.concat (tree.concat anything (counted_as left.now)) anything) (counted_as right.now)) }
-{
-    let before = Subcore::new(alloc, anything(alloc)?)?;
-    let late = Subcore::new(alloc, CoreSere::Then(before, part(alloc, left)?))?;
-    let padded = padded(alloc, late)?;
-    Ok(CoreSere::Both(padded, part(alloc, right)?))
 }
 
 #[cycle(counted)]
@@ -168,6 +141,33 @@ fn copies(alloc: Global, body: &Subsere, count: u32) -> Result<CoreSere, AllocEr
         let body = counted(alloc, body.get())?;
         copied(alloc, body, count)
     }
+}
+
+// `left && {right;[*]}`
+fn left_longer(alloc: Global, left: Subcore, right: Subcore) -> Result<Subcore, AllocError>
+    ensures { IfOk result (λ made. made ≡ tree.both left (tree.concat right anything)) }
+{
+    let padded = padded(alloc, right)?;
+    Subcore::new(alloc, CoreSere::Both(left, padded))
+}
+
+// `{left;[*]} && right`
+fn right_longer(alloc: Global, left: Subcore, right: Subcore) -> Result<Subcore, AllocError>
+    ensures { IfOk result (λ made. made ≡ tree.both (tree.concat left anything) right) }
+{
+    let padded = padded(alloc, left)?;
+    Subcore::new(alloc, CoreSere::Both(padded, right))
+}
+
+// `{[*];left;[*]} && right`
+fn within(alloc: Global, left: Subcore, right: Subcore) -> Result<CoreSere, AllocError>
+    ensures { IfOk result (λ made. core_of made ≡
+        tree.both (tree.concat (tree.concat anything left) anything) right) }
+{
+    let before = Subcore::new(alloc, anything(alloc)?)?;
+    let late = Subcore::new(alloc, CoreSere::Then(before, left))?;
+    let padded = padded(alloc, late)?;
+    Ok(CoreSere::Both(padded, right))
 }
 
 fn goto(

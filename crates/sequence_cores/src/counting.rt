@@ -65,10 +65,10 @@ fn meet_places(left: u64, right: u64) -> u64
     ensures { (a b : ℕ) → left ≡ told a → right ≡ told b → result ≡ told (a * (b + 3) + (a + 3) * b + 1) }
 {
     let right_padded = sum(right, STAR_PLACES);
-    let right_longer = product(left, right_padded);
+    let left_longer = product(left, right_padded);
     let left_padded = sum(left, STAR_PLACES);
-    let left_longer = product(left_padded, right);
-    let either = sum(right_longer, left_longer);
+    let right_longer = product(left_padded, right);
+    let either = sum(left_longer, right_longer);
     sum(either, 1)
 }
 

@@ -3,11 +3,11 @@ use Rattle.sequence_cores.specs.Places.{copied_places, told}
 use Rattle.sequence_cores.proofs.Told.{any_number, at_least}
 use Rattle.sequence_cores.proofs.counting.unbounded_places.Goals as goal
 
-pub returns : goal.returns
-returns c p h = c.sum-rest.ensures p 1 h refl ∙ sym (ap told (any_number c.args.low p (omega arith)))
+pub returns-then-low-eq0 : goal.returns-then-low-eq0
+returns-then-low-eq0 c p h = c.sum-rest.ensures p 1 h refl ∙ sym (ap told (any_number c.args.low p (omega arith)))
 
-pub returns-2 : goal.returns-2
-returns-2 c p h =
+pub returns : goal.returns
+returns c p h =
     let low = c.args.low in
     let front = c.copied_places-front.ensures p h in
     let rest = c.sum-rest.ensures p 1 h refl in
