@@ -8,10 +8,7 @@ use sequence_cores::{CoreError, core};
 use std::alloc::{AllocError, Global};
 
 static CORES: [(Form, &str); 21] = [
-    (
-        Form::A,
-        "Bool(Whole(0))",
-    ),
+    (Form::A, "Bool(Whole(0))"),
     (
         Form::Then,
         "Then(Subcore { node: Bool(Whole(0)) }, Subcore { node: Bool(Whole(1)) })",
@@ -50,14 +47,8 @@ static CORES: [(Form, &str); 21] = [
         "Then(Subcore { node: Power(Subcore { node: Bool(Whole(0)) }, 2) }, Subcore { node: Star(Subcore \
          { node: Bool(Whole(0)) }) })",
     ),
-    (
-        Form::Repeat(0, Some(0)),
-        "Empty",
-    ),
-    (
-        Form::Repeat(1, Some(1)),
-        "Bool(Whole(0))",
-    ),
+    (Form::Repeat(0, Some(0)), "Empty"),
+    (Form::Repeat(1, Some(1)), "Bool(Whole(0))"),
     (
         Form::Repeat(3, Some(3)),
         "Power(Subcore { node: Bool(Whole(0)) }, 3)",

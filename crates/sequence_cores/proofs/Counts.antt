@@ -90,7 +90,6 @@ count_within r =
 two_places : (f : ℕ → ℕ → ℕ) (a b p q : ℕ) → a ≡ p → b ≡ q → f a b ≡ f p q
 two_places f a b p q e g = ap (λ (x : ℕ). f x b) e ∙ ap (λ (y : ℕ). f p y) g
 
-
 count_meet : (r s : CoreSere) →
     count (or (both r (concat s sugar.anything)) (both (concat r sugar.anything) s))
     ≡ count r * (count s + 3) + (count r + 3) * count s + 1
@@ -125,7 +124,7 @@ counted_places (sere.meet r s) =
     (count (meant_core (counted_as s))) (places_of r) (places_of s) (counted_places r) (counted_places s)
 counted_places (sere.within r s) =
     count_pairs (places_in (concat (concat sugar.anything (meant_core (counted_as r))) sugar.anything))
-        (places_in (meant_core (counted_as s)))
+    (places_in (meant_core (counted_as s)))
     ∙ two_places (λ (x y : ℕ). x * y)
     (count (concat (concat sugar.anything (meant_core (counted_as r))) sugar.anything))
     (count (meant_core (counted_as s))) (places_of r + 6) (places_of s)
@@ -135,5 +134,5 @@ counted_places (sere.repeat r low high) =
 counted_places (sere.goto b low high) = count_repeat (counted.next_with b) low high
 counted_places (sere.equal b low high) =
     count_sides (places_in (meant_core (counted_repeat low high (counted.next_with b))))
-        (places_in (meant_core (counted.without b)))
+    (places_in (meant_core (counted.without b)))
     ∙ ap (λ (n : ℕ). n + 3) (count_repeat (counted.next_with b) low high)

@@ -58,14 +58,14 @@ module _ (widths : List ℕ) (between : Between widths) (at_least : AtLeast widt
   union_ranges r low more w p =
       let count : more ≡ (low + more) - low = omega arith in
       (between r low (low + more) w (omega arith)).0
-          (subst (λ (n : ℕ). Tight widths (union_of_copies low n r) w) count p)
+      (subst (λ (n : ℕ). Tight widths (union_of_copies low n r) w) count p)
 
   ranges_union : (r : CoreSere) (low more : ℕ) (w : List Letter) → Ranges r low more w →
       Tight widths (union_of_copies low more r) w
   ranges_union r low more w all =
       let count : (low + more) - low ≡ more = omega arith in
       subst (λ (n : ℕ). Tight widths (union_of_copies low n r) w) count
-          ((between r low (low + more) w (omega arith)).1 all)
+      ((between r low (low + more) w (omega arith)).1 all)
 
   copies_are : (r : CoreSere) (k : ℕ) (w : List Letter) → Tight widths (copies k r) w → Copies (Tight widths r) k w
   copies_are r k w p = pick (union_ranges r k zero w p)
@@ -128,7 +128,7 @@ module _ (widths : List ℕ) (between : Between widths) (at_least : AtLeast widt
       Keeps (meant_core (counted_repeat low high r)) (repeated low high s)
   repeat_kept r s low (Some high) f w p =
       ranges_union s low (high - low) w
-          (ranges_keep (meant_core r) s low (high - low) w f (ranged_ranges r low (high - low) w p))
+      (ranges_keep (meant_core r) s low (high - low) w f (ranged_ranges r low (high - low) w p))
   repeat_kept r s zero None f w (n, all) = (n, copies_keep (Tight widths (meant_core r)) (Tight widths s) f n w all)
   repeat_kept r s (suc low) None f w (u, v, split, p, (n, all)) =
       let P : List Letter → Type 0 = Tight widths (meant_core r) in
@@ -144,7 +144,7 @@ module _ (widths : List ℕ) (between : Between widths) (at_least : AtLeast widt
       Keeps (repeated low high s) (meant_core (counted_repeat low high r))
   kept_repeat r s low (Some high) f w p =
       ranges_ranged r low (high - low) w
-          (ranges_keep s (meant_core r) low (high - low) w f (union_ranges s low (high - low) w p))
+      (ranges_keep s (meant_core r) low (high - low) w f (union_ranges s low (high - low) w p))
   kept_repeat r s zero None f w (n, all) = (n, copies_keep (Tight widths s) (Tight widths (meant_core r)) f n w all)
   kept_repeat r s (suc low) None f w (u, v, split, p, (n, all)) =
       let P : List Letter → Type 0 = Tight widths s in
@@ -168,72 +168,72 @@ module _ (widths : List ℕ) (between : Between widths) (at_least : AtLeast widt
       (or (both r' (concat s' sugar.anything)) (both (concat r' sugar.anything) s'))
   meets_kept r r' s s' f g =
       or_keeps (both r (concat s sugar.anything)) (both r' (concat s' sugar.anything))
-          (both (concat r sugar.anything) s) (both (concat r' sugar.anything) s')
-          (both_keep r r' (concat s sugar.anything) (concat s' sugar.anything) f (padded_kept s s' g))
-          (both_keep (concat r sugar.anything) (concat r' sugar.anything) s s' (padded_kept r r' f) g)
+      (both (concat r sugar.anything) s) (both (concat r' sugar.anything) s')
+      (both_keep r r' (concat s sugar.anything) (concat s' sugar.anything) f (padded_kept s s' g))
+      (both_keep (concat r sugar.anything) (concat r' sugar.anything) s s' (padded_kept r r' f) g)
 
   within_kept : (r r' s s' : CoreSere) → Keeps r r' → Keeps s s' →
       Keeps (both (concat (concat sugar.anything r) sugar.anything) s)
       (both (concat (concat sugar.anything r') sugar.anything) s')
   within_kept r r' s s' f g =
       both_keep (concat (concat sugar.anything r) sugar.anything) (concat (concat sugar.anything r') sugar.anything) s s'
-          (padded_kept (concat sugar.anything r) (concat sugar.anything r') (later_kept r r' f)) g
+      (padded_kept (concat sugar.anything r) (concat sugar.anything r') (later_kept r r' f)) g
 
   pub counted_kept : (r : sere.Sere) → Keeps (meant_core (counted_as r)) (sugar.core_of r)
   counted_kept (sere.bool e) = itself_keeps (sugar.core_of (sere.bool e))
   counted_kept (sere.concat r s) =
       concat_keeps (meant_core (counted_as r)) (sugar.core_of r) (meant_core (counted_as s)) (sugar.core_of s)
-          (counted_kept r) (counted_kept s)
+      (counted_kept r) (counted_kept s)
   counted_kept (sere.fuse r s) =
       fuse_keeps (meant_core (counted_as r)) (sugar.core_of r) (meant_core (counted_as s)) (sugar.core_of s)
-          (counted_kept r) (counted_kept s)
+      (counted_kept r) (counted_kept s)
   counted_kept (sere.or r s) =
       or_keeps (meant_core (counted_as r)) (sugar.core_of r) (meant_core (counted_as s)) (sugar.core_of s)
-          (counted_kept r) (counted_kept s)
+      (counted_kept r) (counted_kept s)
   counted_kept (sere.both r s) =
       both_keep (meant_core (counted_as r)) (sugar.core_of r) (meant_core (counted_as s)) (sugar.core_of s)
-          (counted_kept r) (counted_kept s)
+      (counted_kept r) (counted_kept s)
   counted_kept (sere.meet r s) =
       meets_kept (meant_core (counted_as r)) (sugar.core_of r) (meant_core (counted_as s)) (sugar.core_of s)
-          (counted_kept r) (counted_kept s)
+      (counted_kept r) (counted_kept s)
   counted_kept (sere.within r s) =
       within_kept (meant_core (counted_as r)) (sugar.core_of r) (meant_core (counted_as s)) (sugar.core_of s)
-          (counted_kept r) (counted_kept s)
+      (counted_kept r) (counted_kept s)
   counted_kept (sere.repeat r low high) = repeat_kept (counted_as r) (sugar.core_of r) low high (counted_kept r)
   counted_kept (sere.goto e low high) =
       repeat_kept (counted.next_with e) (sugar.next_with e) low high (itself_keeps (sugar.next_with e))
   counted_kept (sere.equal e low high) =
       concat_keeps (meant_core (counted_repeat low high (counted.next_with e)))
-          (repeated low high (sugar.next_with e)) (meant_core (counted.without e)) (meant_core (counted.without e))
-          (repeat_kept (counted.next_with e) (sugar.next_with e) low high (itself_keeps (sugar.next_with e)))
-          (itself_keeps (meant_core (counted.without e)))
+      (repeated low high (sugar.next_with e)) (meant_core (counted.without e)) (meant_core (counted.without e))
+      (repeat_kept (counted.next_with e) (sugar.next_with e) low high (itself_keeps (sugar.next_with e)))
+      (itself_keeps (meant_core (counted.without e)))
 
   pub kept_counted : (r : sere.Sere) → Keeps (sugar.core_of r) (meant_core (counted_as r))
   kept_counted (sere.bool e) = itself_keeps (sugar.core_of (sere.bool e))
   kept_counted (sere.concat r s) =
       concat_keeps (sugar.core_of r) (meant_core (counted_as r)) (sugar.core_of s) (meant_core (counted_as s))
-          (kept_counted r) (kept_counted s)
+      (kept_counted r) (kept_counted s)
   kept_counted (sere.fuse r s) =
       fuse_keeps (sugar.core_of r) (meant_core (counted_as r)) (sugar.core_of s) (meant_core (counted_as s))
-          (kept_counted r) (kept_counted s)
+      (kept_counted r) (kept_counted s)
   kept_counted (sere.or r s) =
       or_keeps (sugar.core_of r) (meant_core (counted_as r)) (sugar.core_of s) (meant_core (counted_as s))
-          (kept_counted r) (kept_counted s)
+      (kept_counted r) (kept_counted s)
   kept_counted (sere.both r s) =
       both_keep (sugar.core_of r) (meant_core (counted_as r)) (sugar.core_of s) (meant_core (counted_as s))
-          (kept_counted r) (kept_counted s)
+      (kept_counted r) (kept_counted s)
   kept_counted (sere.meet r s) =
       meets_kept (sugar.core_of r) (meant_core (counted_as r)) (sugar.core_of s) (meant_core (counted_as s))
-          (kept_counted r) (kept_counted s)
+      (kept_counted r) (kept_counted s)
   kept_counted (sere.within r s) =
       within_kept (sugar.core_of r) (meant_core (counted_as r)) (sugar.core_of s) (meant_core (counted_as s))
-          (kept_counted r) (kept_counted s)
+      (kept_counted r) (kept_counted s)
   kept_counted (sere.repeat r low high) = kept_repeat (counted_as r) (sugar.core_of r) low high (kept_counted r)
   kept_counted (sere.goto e low high) =
       kept_repeat (counted.next_with e) (sugar.next_with e) low high (itself_keeps (sugar.next_with e))
   kept_counted (sere.equal e low high) =
       concat_keeps (repeated low high (sugar.next_with e))
-          (meant_core (counted_repeat low high (counted.next_with e)))
-          (meant_core (counted.without e)) (meant_core (counted.without e))
-          (kept_repeat (counted.next_with e) (sugar.next_with e) low high (itself_keeps (sugar.next_with e)))
-          (itself_keeps (meant_core (counted.without e)))
+      (meant_core (counted_repeat low high (counted.next_with e)))
+      (meant_core (counted.without e)) (meant_core (counted.without e))
+      (kept_repeat (counted.next_with e) (sugar.next_with e) low high (itself_keeps (sugar.next_with e)))
+      (itself_keeps (meant_core (counted.without e)))

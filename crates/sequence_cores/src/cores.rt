@@ -12,10 +12,8 @@ ghost use Rattle.sequence_cores.specs.Places.{place_limit, places_of, told};
 ghost use Rattle.sequence_cores.specs.Counted.{anything, copied, counted_repeat, without, next_with, counted_as};
 ghost use Rattle.sequence_cores.specs.PlaceGraph.{places_in};
 
-use crate::laws::{
-    a_counted_sequence_has_as_many_places, a_counted_sequence_has_the_same_words,
-};
 use crate::counting::places;
+use crate::laws::{a_counted_sequence_has_as_many_places, a_counted_sequence_has_the_same_words};
 use psl_model::{Expr, Sere, Subexpr, Subsere, UnOp};
 use psl_rewrite::{CoreSere, Subcore};
 use std::alloc::{AllocError, Global};
@@ -69,24 +67,16 @@ fn counted(alloc: Global, sere: &Sere) -> Result<CoreSere, AllocError>
 {
     match sere {
         Sere::Bool(expr) => Ok(CoreSere::Bool(expr.copy(alloc)?)),
-        Sere::Then(left, right) => {
-            Ok(CoreSere::Then(part(alloc, left)?, part(alloc, right)?))
-        }
-        Sere::Fuse(left, right) => {
-            Ok(CoreSere::Fuse(part(alloc, left)?, part(alloc, right)?))
-        }
+        Sere::Then(left, right) => { Ok(CoreSere::Then(part(alloc, left)?, part(alloc, right)?)) }
+        Sere::Fuse(left, right) => { Ok(CoreSere::Fuse(part(alloc, left)?, part(alloc, right)?)) }
         Sere::Or(left, right) => Ok(CoreSere::Or(part(alloc, left)?, part(alloc, right)?)),
-        Sere::Both(left, right) => {
-            Ok(CoreSere::Both(part(alloc, left)?, part(alloc, right)?))
-        }
+        Sere::Both(left, right) => { Ok(CoreSere::Both(part(alloc, left)?, part(alloc, right)?)) }
         Sere::Meet(left, right) => {
             let left_longer = left_longer(alloc, part(alloc, left)?, part(alloc, right)?)?;
             let right_longer = right_longer(alloc, part(alloc, left)?, part(alloc, right)?)?;
             Ok(CoreSere::Or(left_longer, right_longer))
         }
-        Sere::Within(left, right) => {
-            within(alloc, part(alloc, left)?, part(alloc, right)?)
-        }
+        Sere::Within(left, right) => { within(alloc, part(alloc, left)?, part(alloc, right)?) }
         Sere::Repeat(body, low, high) => repeat(alloc, body, *low, *high),
         Sere::Goto(expr, low, high) => goto(alloc, expr, *low, *high),
         Sere::Equal(expr, low, high) => {
@@ -170,12 +160,7 @@ fn within(alloc: Global, left: Subcore, right: Subcore) -> Result<CoreSere, Allo
     Ok(CoreSere::Both(padded, right))
 }
 
-fn goto(
-    alloc: Global,
-    expr: &Expr,
-    low: u32,
-    high: Option<u32>,
-) -> Result<CoreSere, AllocError>
+fn goto(alloc: Global, expr: &Expr, low: u32, high: Option<u32>) -> Result<CoreSere, AllocError>
     ensures { IfOk result (λ made. core_of made ≡ counted_repeat low high (next_with (expr_of expr.now))) }
 {
     match high {
@@ -246,10 +231,7 @@ fn copied(alloc: Global, body: CoreSere, count: u32) -> Result<CoreSere, AllocEr
 fn then(alloc: Global, left: CoreSere, right: CoreSere) -> Result<CoreSere, AllocError>
     ensures { IfOk result (λ made. core_of made ≡ tree.concat (core_of left) (core_of right)) }
 {
-    Ok(CoreSere::Then(
-        Subcore::new(alloc, left)?,
-        Subcore::new(alloc, right)?,
-    ))
+    Ok(CoreSere::Then(Subcore::new(alloc, left)?, Subcore::new(alloc, right)?))
 }
 
 fn star(alloc: Global, body: CoreSere) -> Result<CoreSere, AllocError>

@@ -33,9 +33,7 @@ pub fn places(sere: &Sere) -> u64
         }
         Sere::Repeat(body, low, high) => repeated_places(*low, *high, part_places(body)),
         Sere::Goto(_, low, high) => repeated_places(*low, *high, GOTO_PLACES),
-        Sere::Equal(_, low, high) => {
-            sum(repeated_places(*low, *high, GOTO_PLACES), STAR_PLACES)
-        }
+        Sere::Equal(_, low, high) => { sum(repeated_places(*low, *high, GOTO_PLACES), STAR_PLACES) }
     }
 }
 
