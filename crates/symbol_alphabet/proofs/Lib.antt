@@ -1,0 +1,4 @@
+pub mod Found
+pub mod Truth
+pub mod Labels
+pub mod Made
