@@ -23,7 +23,9 @@ embeds_self m = record {
   steps = λ s o. record { owned = λ l t k. tt; there = λ l t k. k; back = λ l u k. (u, k, refl) };
 }
 
-pub embeds_through : {S T U : Type 0} {own : S → Type 0} {owns : T → Type 0} {m : Machine S} {n : Machine T} {o : Machine U} (f : S → T) (g : T → U) → ((s : S) → own s → owns (f s)) → Embeds own m n f → Embeds owns n o g → Embeds own m o (λ s. g (f s))
+pub embeds_through : {S T U : Type 0} {own : S → Type 0} {owns : T →
+    Type 0} {m : Machine S} {n : Machine T} {o : Machine U} (f : S → T) (g : T → U) → ((s : S) → own s → owns (f s)) →
+    Embeds own m n f → Embeds owns n o g → Embeds own m o (λ s. g (f s))
 embeds_through {S} {T} {U} {own} {owns} {m} {n} {o} f g into a b = record {
   start = ap g a.start ∙ b.start;
   owned = a.owned;
@@ -46,14 +48,16 @@ module _ {S T : Type 0} {own : S → Type 0} {m : Machine S} {n : Machine T} (f 
       let before = reached_there t r in
       let steps = e.steps t before.0 in
       let edge = Among-from_Contains (m.edges t) (label, next) k in
-      (steps.owned label next edge, by_edge label (f next) before.1 (Contains-from_Among (n.edges (f t)) (label, f next) (steps.there label next edge)))
+      (steps.owned label next edge, by_edge label (f next) before.1 (Contains-from_Among (n.edges (f t)) (label,
+          f next) (steps.there label next edge)))
 
   pub reached_back : (u : T) → Reached n u → (s : S) × Reached m s × (f s ≡ u)
   reached_back u at_start = (m.start, at_start, e.start)
   reached_back u (by_edge {s = t} label next r k) =
       let before = reached_back t r in
       let steps = e.steps before.0 (reached_there before.0 before.1).0 in
-      let edge = steps.back label next (subst (λ (z : T). Among (n.edges z) (label, next)) (sym before.2) (Among-from_Contains (n.edges t) (label, next) k)) in
+      let edge = steps.back label next (subst (λ (z : T). Among (n.edges z) (label,
+          next)) (sym before.2) (Among-from_Contains (n.edges t) (label, next) k)) in
       (edge.0, by_edge label edge.0 before.1 (Contains-from_Among (m.edges before.0) (label, edge.0) edge.1), edge.2)
 
   words_there : (w : List Letter) (s : S) → own s → AcceptsFrom m s w → AcceptsFrom n (f s) w
@@ -61,14 +65,16 @@ module _ {S T : Type 0} {own : S → Type 0} {m : Machine S} {n : Machine T} (f 
   words_there (a ∷ w) s o h =
       let steps = e.steps s o in
       let edge = Among-from_Contains (m.edges s) (h.0, h.1) h.2 in
-      (h.0, f h.1, Contains-from_Among (n.edges (f s)) (h.0, f h.1) (steps.there h.0 h.1 edge), h.3, words_there w h.1 (steps.owned h.0 h.1 edge) h.4)
+      (h.0, f h.1, Contains-from_Among (n.edges (f s)) (h.0, f h.1) (steps.there h.0 h.1 edge), h.3,
+          words_there w h.1 (steps.owned h.0 h.1 edge) h.4)
 
   words_back : (w : List Letter) (s : S) → own s → AcceptsFrom n (f s) w → AcceptsFrom m s w
   words_back [] s o h = subst IsTrue (sym (e.accepts s o)) h
   words_back (a ∷ w) s o h =
       let steps = e.steps s o in
       let edge = steps.back h.0 h.1 (Among-from_Contains (n.edges (f s)) (h.0, h.1) h.2) in
-      (h.0, edge.0, Contains-from_Among (m.edges s) (h.0, edge.0) edge.1, h.3, words_back w edge.0 (steps.owned h.0 edge.0 edge.1) (subst (λ (z : T). AcceptsFrom n z w) (sym edge.2) h.4))
+      (h.0, edge.0, Contains-from_Among (m.edges s) (h.0, edge.0) edge.1, h.3,
+          words_back w edge.0 (steps.owned h.0 edge.0 edge.1) (subst (λ (z : T). AcceptsFrom n z w) (sym edge.2) h.4))
 
   -- the two accept the same lists
   pub same_words : (w : List Letter) → Accepts m w ↔ Accepts n w

@@ -112,7 +112,8 @@ module _ (label : Expr → List Literal) where
     where
       there : (l : List Literal) (t : LeafState) →
           Only (label e) l t ⊎ ⊥ → St (bool e) first l (ends t)
-      there l leaf.Start (inl k) = absurd (let f : leaf.End ≡ leaf.Start = ap (λ (x : List Literal × LeafState). x.1) k in cc)
+      there l leaf.Start (inl k) = absurd (let f : leaf.End ≡ leaf.Start =
+          ap (λ (x : List Literal × LeafState). x.1) k in cc)
       there l leaf.Start (inr k) = absurd k
       there l leaf.End (inl k) = sym (ap (λ (x : List Literal × LeafState). x.0) k)
       there l leaf.End (inr k) = absurd k

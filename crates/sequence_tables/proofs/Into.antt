@@ -57,8 +57,7 @@ module _ {T : Type 0} {start : T} {accepting : T → Bool} {step : T → List Li
     reached_back u (place.by_step {p = t} label next r k) =
         let before = reached_back t r in
         let steps = a.steps before.0 (reached_there before.0 before.1).0 in
-        let edge = steps.back label next (subst (λ (z : T). step z label next) (sym before.2) k) in
-        (
+        let edge = steps.back label next (subst (λ (z : T). step z label next) (sym before.2) k) in (
           edge.0,
           by_edge label edge.0 before.1 (Contains-from_Among (m.edges before.0) (label, edge.0) edge.1),
           edge.2,

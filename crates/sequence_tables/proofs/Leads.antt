@@ -133,9 +133,16 @@ module _ {S T U S' T' U' : Type 0} {own : S → Type 0} {owns : T → Type 0} {o
         let r = cases l u k in
         subst owned r.5 (into r.0.1 r.1.1 (m.owned r.0.0 r.0.1 r.2) (n.owned r.1.0 r.1.1 r.3));
     there = λ l u k.
-        let r = cases l u k in
-        (r.0.0, r.1.0, f r.0.1, g r.1.1, m.there r.0.0 r.0.1 r.2, n.there r.1.0 r.1.1 r.3, sym r.4,
-            sym (square r.0.1 r.1.1) ∙ ap h r.5);
+        let r = cases l u k in (
+          r.0.0,
+          r.1.0,
+          f r.0.1,
+          g r.1.1,
+          m.there r.0.0 r.0.1 r.2,
+          n.there r.1.0 r.1.1 r.3,
+          sym r.4,
+          sym (square r.0.1 r.1.1) ∙ ap h r.5,
+        );
     back = λ l v k.
         let a = m.back k.0 k.2 k.4 in
         let b = n.back k.1 k.3 k.5 in

@@ -124,7 +124,8 @@ module _ {T : Type 0} {start : T} {accepting : T → Bool} {step : T → List Li
         (λ h.
             let r = reached_back e u h in
             let known = Among-from_Contains names r.0 ((part.reached r.0).1 r.1) in
-            subst (Contains (map f names)) r.2 (Contains-from_Among (map f names) (f r.0) (Among-map f names r.0 known))),
+            subst (Contains (map f names)) r.2 (Contains-from_Among (map f names) (f r.0)
+                (Among-map f names r.0 known))),
       );
       accepts = part.accepting
           ∙ map-agree m.accepts (λ s. accepting (f s)) names (λ s k. e.accepts s (All-among own names s all k))

@@ -1,6 +1,6 @@
 -- The table of a sequence from those of its parts.
-use Rattle.std.proofs.Common.{◌≡◌, ◌↔◌, ◌≢◌, ◌∙◌, refl, sym, ap, subst, ℕ, zero, suc, ◌<◌, Bool, true, cond, List, []}
-use Rattle.std.proofs.Common.{◌∷◌, ◌++◌, map, length, inl, inr, ◌⊎◌, arith, append_assoc, All}
+use Rattle.std.proofs.Common.{◌≡◌, ◌↔◌, ◌≢◌, ◌∙◌, refl, sym, ap, subst, ℕ, zero, suc, ◌<◌, Bool, true, false, cond}
+use Rattle.std.proofs.Common.{List, [], ◌∷◌, ◌++◌, map, length, inl, inr, ◌⊎◌, arith, append_assoc, All}
 use Rattle.psl_model.specs.Expr.{Expr}
 use Rattle.psl_meaning.specs.Sequence.{CoreSere, bool, empty, concat, fuse, or, both, star, Holds, Copies, Tight}
 use Rattle.psl_meaning.specs.SequenceSugar.{copies}
@@ -9,7 +9,7 @@ use Rattle.sequence_cores.specs.PlaceGraph.{Place, first, start_of, accepts, Ste
 use Rattle.symbol_alphabet.specs.Symbols.{label_in, seen_by, HasSymbol, needs_none, same, stripped, with_symbol}
 use Rattle.auto_core.specs.declared.labels.Literal.{Literal}
 use Rattle.auto_core.specs.declared.tables.Edge.{Edge}
-use Rattle.auto_core.specs.Graph.{Graph, graph_machine}
+use Rattle.auto_core.specs.Graph.{Graph, graph_machine, IsReachedPart}
 use Rattle.auto_core.specs.Machine.{Machine, Letter, Passes, Accepts}
 use Rattle.auto_core.specs.Splits.{IsConcatenation, IsFusion, IsRepetition}
 use Rattle.automata_product.specs.Both.{both_machine, OfPair}
@@ -21,7 +21,8 @@ use Rattle.sere_automata.specs.OneOf.{one_of_machine}
 use Rattle.sere_automata.specs.Repeat.{repeat_machine}
 use Rattle.sere_automata.specs.States.{OfChoice, OfRound}
 use Rattle.std.specs.List.{list_any}
-use Rattle.sequence_tables.specs.PlaceTable.{ReachedBy, at_start, by_step, IsStepIn, IsPartOf, joined_label, IsPlaceTable}
+use Rattle.sequence_tables.specs.PlaceTable.{ReachedBy, at_start, by_step, IsStepIn, IsPartOf, joined_label}
+use Rattle.sequence_tables.specs.PlaceTable.{IsPlaceTable}
 use Rattle.sequence_tables.specs.Words.{AcceptsTight}
 use Rattle.sequence_tables.specs.inner.Built.{IsTableOf, Stands, Makes, MakesOfTwo}
 use Rattle.sequence_tables.specs.inner.Copies.{chain_machine}
@@ -31,7 +32,7 @@ use Rattle.sequence_tables.proofs.Members.{Among, append-nil, All-among, Contain
 use Rattle.sequence_tables.proofs.Parts.{place_at, into_of_part, part_through}
 use Rattle.sequence_tables.proofs.Powers.{OwnCopy, unrolled, copies_into, one_copy_words, more_copies_words}
 use Rattle.sequence_tables.proofs.Words.{Seen, Reads, all_seen, concat_reads, fusion_reads, repetition_reads}
-use Rattle.sequence_tables.proofs.Words.{letter_reads, nothing_reads}
+use Rattle.sequence_tables.proofs.Words.{letter_reads, nothing_reads, seen_all}
 use Rattle.sequence_tables.proofs.Within.{EachBelow, BelowIn, to_each, from_each, below-part, below_label, below-leaf}
 use Rattle.sequence_tables.proofs.Within.{below-concat, below-fuse, below-one_of, below-both, below-repeat, below-chain}
 
@@ -56,7 +57,8 @@ module _ (label : Expr → List Literal) where
   abbrev named : (r : CoreSere) (g : Graph) → IsPlaceTable label r g → ℕ → Place
   named r g a = place_at (start_of r) a.0
 
-  known : (r : CoreSere) (g : Graph) (a : IsPlaceTable label r g) → InPlaces label (Own g) (graph_machine g) r (named r g a)
+  known : (r : CoreSere) (g : Graph) (a : IsPlaceTable label r g) →
+      InPlaces label (Own g) (graph_machine g) r (named r g a)
   known r g a = into_of_part a.0 g a.1
 
   concat_graph : (r s : CoreSere) (g h t : Graph) → IsPlaceTable label r g → IsPlaceTable label s h →
@@ -95,21 +97,24 @@ module _ (label : Expr → List Literal) where
       through (copies (suc k) r) (unrolled label r (known r g a) k) t (copies_into label r (known r g a) k) made
 
   empty_graph : IsPlaceTable label empty (record { accepting = true ∷ []; edges = [] })
-  empty_graph = (first ∷ [], record {
-    first = refl;
-    different = λ i j d lt below. absurd (omega (arith, lt, below));
-    reached = λ p. (
-      (λ h. subst (ReachedBy first (Step label joined_label empty))
-          (elim (Among-from_Contains (first ∷ []) p h) [ inl e ↦ e | inr k ↦ absurd k ]) at_start),
-      (λ h. Contains-from_Among (first ∷ []) p (inl (only p h))),
-    );
-    accepts = refl;
-    edges = λ e. (
-      (λ h. absurd (Among-from_Contains [] e h)),
-      (λ h. absurd h.4),
-    );
-    once = λ i j d lt below. absurd (omega (arith, lt, below));
-  })
+  empty_graph = (
+    first ∷ [],
+    record {
+      first = refl;
+      different = λ i j d lt below. absurd (omega (arith, lt, below));
+      reached = λ p. (
+        (λ h. subst (ReachedBy first (Step label joined_label empty))
+            (elim (Among-from_Contains (first ∷ []) p h) [ inl e ↦ e | inr k ↦ absurd k ]) at_start),
+        (λ h. Contains-from_Among (first ∷ []) p (inl (only p h))),
+      );
+      accepts = refl;
+      edges = λ e. (
+        (λ h. absurd (Among-from_Contains [] e h)),
+        (λ h. absurd h.4),
+      );
+      once = λ i j d lt below. absurd (omega (arith, lt, below));
+    },
+  )
     where
       only : (p : Place) → ReachedBy first (Step label joined_label empty) p → first ≡ p
       only p at_start = refl
@@ -117,9 +122,9 @@ module _ (label : Expr → List Literal) where
 
 -- ---- the symbols on labels
 
-made_below : {S : Type 0} {own : S → Type 0} (n : ℕ) (m : Machine S) (t : Graph) → IsTableOf own m t → BelowIn n m →
-    EachBelow n t
-made_below n m t made a = to_each n t (below-part n m made.0.0 t made.0.2 a)
+made_below : {S : Type 0} (n : ℕ) (m : Machine S) (states : List S) (t : Graph) → IsReachedPart m states t →
+    BelowIn n m → EachBelow n t
+made_below n m states t part a = to_each n t (below-part n m states t part a)
 
 from_same : (n : ℕ) (g x : Graph) → x ≡ g → EachBelow n g → BelowIn n (graph_machine x)
 from_same n g x e a = from_each n x (subst (EachBelow n) (sym e) a)
@@ -133,7 +138,7 @@ module _ (x y g h t : Graph) (e : x ≡ g) (k : y ≡ h) where
       IsTableOf (OfSides (Own x) (Own y)) (concat_machine (graph_machine x) (graph_machine y)) t →
       MakesOfTwo (λ r s. concat r s) g h t
   concat_stands law made symbols r s a b = record {
-    numbered = made_below (length symbols) (concat_machine (graph_machine x) (graph_machine y)) t made
+    numbered = made_below (length symbols) (concat_machine (graph_machine x) (graph_machine y)) made.0.0 t made.0.2
         (below-concat (length symbols) (graph_machine x) (graph_machine y)
         (from_same (length symbols) g x e a.numbered) (from_same (length symbols) h y k b.numbered));
     graph = concat_graph (label_in symbols) r s x y t
@@ -142,7 +147,7 @@ module _ (x y g h t : Graph) (e : x ≡ g) (k : y ≡ h) where
     words = λ widths w all.
         let read = concat_reads (seen_by widths symbols) (Accepts (graph_machine g)) (Tight widths r)
         (Accepts (graph_machine h)) (Tight widths s) (reads_of symbols r g a.words widths)
-        (reads_of symbols s h b.words widths) w (λ c among. All-among _ w c all among) in
+        (reads_of symbols s h b.words widths) w (seen_all w all) in
         let v = map (seen_by widths symbols) w in
         ((λ n. read.0 ((law v).0 ((made.1 v).0 n))), (λ n. (made.1 v).1 ((law v).1 (read.1 n))));
   }
@@ -153,7 +158,7 @@ module _ (x y g h t : Graph) (e : x ≡ g) (k : y ≡ h) where
       IsTableOf (OfSides (Own x) (Own y)) (fuse_machine (graph_machine x) (graph_machine y)) t →
       MakesOfTwo (λ r s. fuse r s) g h t
   fuse_stands law made symbols r s a b = record {
-    numbered = made_below (length symbols) (fuse_machine (graph_machine x) (graph_machine y)) t made
+    numbered = made_below (length symbols) (fuse_machine (graph_machine x) (graph_machine y)) made.0.0 t made.0.2
         (below-fuse (length symbols) (graph_machine x) (graph_machine y)
         (from_same (length symbols) g x e a.numbered) (from_same (length symbols) h y k b.numbered));
     graph = fuse_graph (label_in symbols) r s x y t
@@ -162,7 +167,7 @@ module _ (x y g h t : Graph) (e : x ≡ g) (k : y ≡ h) where
     words = λ widths w all.
         let read = fusion_reads (seen_by widths symbols) (Accepts (graph_machine g)) (Tight widths r)
         (Accepts (graph_machine h)) (Tight widths s) (reads_of symbols r g a.words widths)
-        (reads_of symbols s h b.words widths) w (λ c among. All-among _ w c all among) in
+        (reads_of symbols s h b.words widths) w (seen_all w all) in
         let v = map (seen_by widths symbols) w in
         ((λ n. read.0 ((law v).0 ((made.1 v).0 n))), (λ n. (made.1 v).1 ((law v).1 (read.1 n))));
   }
@@ -173,7 +178,7 @@ module _ (x y g h t : Graph) (e : x ≡ g) (k : y ≡ h) where
       IsTableOf (OfChoice (Own x) (Own y)) (one_of_machine (graph_machine x) (graph_machine y)) t →
       MakesOfTwo (λ r s. or r s) g h t
   or_stands law made symbols r s a b = record {
-    numbered = made_below (length symbols) (one_of_machine (graph_machine x) (graph_machine y)) t made
+    numbered = made_below (length symbols) (one_of_machine (graph_machine x) (graph_machine y)) made.0.0 t made.0.2
         (below-one_of (length symbols) (graph_machine x) (graph_machine y)
         (from_same (length symbols) g x e a.numbered) (from_same (length symbols) h y k b.numbered));
     graph = or_graph (label_in symbols) r s x y t
@@ -194,7 +199,7 @@ module _ (x y g h t : Graph) (e : x ≡ g) (k : y ≡ h) where
       IsTableOf (OfPair (Own x) (Own y)) (both_machine (graph_machine x) (graph_machine y)) t →
       MakesOfTwo (λ r s. both r s) g h t
   both_stands law made symbols r s a b = record {
-    numbered = made_below (length symbols) (both_machine (graph_machine x) (graph_machine y)) t made
+    numbered = made_below (length symbols) (both_machine (graph_machine x) (graph_machine y)) made.0.0 t made.0.2
         (below-both (length symbols) (graph_machine x) (graph_machine y)
         (from_same (length symbols) g x e a.numbered) (from_same (length symbols) h y k b.numbered));
     graph = both_graph (label_in symbols) r s x y t
@@ -212,12 +217,12 @@ module _ (x g t : Graph) (e : x ≡ g) where
       ((w : List Letter) → Accepts (repeat_machine (graph_machine x)) w ↔ IsRepetition (Accepts (graph_machine g)) w) →
       IsTableOf (OfRound (Own x)) (repeat_machine (graph_machine x)) t → Makes (λ r. star r) g t
   star_stands law made symbols r a = record {
-    numbered = made_below (length symbols) (repeat_machine (graph_machine x)) t made
+    numbered = made_below (length symbols) (repeat_machine (graph_machine x)) made.0.0 t made.0.2
         (below-repeat (length symbols) (graph_machine x) (from_same (length symbols) g x e a.numbered));
     graph = star_graph (label_in symbols) r x t (subst (IsPlaceTable (label_in symbols) r) (sym e) a.graph) made;
     words = λ widths w all.
         let read = repetition_reads (seen_by widths symbols) (Accepts (graph_machine g)) (Tight widths r)
-        (reads_of symbols r g a.words widths) w (λ c among. All-among _ w c all among) in
+        (reads_of symbols r g a.words widths) w (seen_all w all) in
         let v = map (seen_by widths symbols) w in
         ((λ n. read.0 ((law v).0 ((made.1 v).0 n))), (λ n. (made.1 v).1 ((law v).1 (read.1 n))));
   }
@@ -227,7 +232,8 @@ module _ (x g t : Graph) (e : x ≡ g) where
 module _ (g : Graph) (law : (n : Machine (ℕ × ℕ)) (m : Machine ℕ) (w : List Letter) →
     Accepts (concat_machine n m) w ↔ IsConcatenation (Accepts n) (Accepts m) w) where
   copies_reads : (symbols : List Expr) (r : CoreSere) → AcceptsTight symbols r g → (widths : List ℕ) → (k : ℕ) →
-      Reads (seen_by widths symbols) (Accepts (chain_machine (graph_machine g) (suc k))) (Tight widths (copies (suc k) r))
+      Reads (seen_by widths symbols) (Accepts (chain_machine (graph_machine g) (suc k)))
+          (Tight widths (copies (suc k) r))
   copies_reads symbols r words widths zero w seen =
       let one = one_copy_words (graph_machine g) (map (seen_by widths symbols) w) in
       let read = reads_of symbols r g words widths w seen in
@@ -244,12 +250,12 @@ module _ (g : Graph) (law : (n : Machine (ℕ × ℕ)) (m : Machine ℕ) (w : Li
       IsTableOf (OwnCopy (Own g) k) (chain_machine (graph_machine g) k) t → Makes (λ r. copies k r) g t
   copies_stand t zero some made symbols r a = absurd (omega arith)
   copies_stand t (suc k) some made symbols r a = record {
-    numbered = made_below (length symbols) (chain_machine (graph_machine g) (suc k)) t made
+    numbered = made_below (length symbols) (chain_machine (graph_machine g) (suc k)) made.0.0 t made.0.2
         (below-chain (length symbols) (graph_machine g) (from_each (length symbols) g a.numbered) (suc k));
     graph = copies_graph (label_in symbols) r g t k a.graph made;
     words = λ widths w all.
         let v = map (seen_by widths symbols) w in
-        let read = copies_reads symbols r a.words widths k w (λ c among. All-among _ w c all among) in
+        let read = copies_reads symbols r a.words widths k w (seen_all w all) in
         ((λ n. read.0 ((made.1 v).0 n)), (λ n. (made.1 v).1 (read.1 n)));
   }
 
@@ -262,7 +268,7 @@ empty_stands t e law symbols = record {
   graph = subst (IsPlaceTable (label_in symbols) empty) (sym e) (empty_graph (label_in symbols));
   words = λ widths w all.
       let v = map (seen_by widths symbols) w in
-      let read = nothing_reads (seen_by widths symbols) w (λ c among. All-among _ w c all among) in
+      let read = nothing_reads (seen_by widths symbols) w (seen_all w all) in
       ((λ n. read.0 ((law v).0 n)), (λ n. (law v).1 (read.1 n)));
 }
 
@@ -271,7 +277,8 @@ pub no_copies_stand : (g t : Graph) (k : ℕ) → k ≡ 0 → ((symbols : List E
 no_copies_stand g t k e made symbols r a = subst (λ (n : ℕ). Stands symbols (copies n r) t) (sym e) (made symbols)
 
 module _ (e : Expr) (symbols : List Expr) (has : HasSymbol symbols e)
-    (stays : (symbols more : List Expr) (e : Expr) → HasSymbol symbols e → label_in (symbols ++ more) e ≡ label_in symbols e)
+    (stays : (symbols more : List Expr) (e : Expr) → HasSymbol symbols e →
+        label_in (symbols ++ more) e ≡ label_in symbols e)
     (numbered : (symbols more : List Expr) (e : Expr) → HasSymbol symbols e → HasSymbol (symbols ++ more) e)
     (within : (symbols : List Expr) (e : Expr) → HasSymbol symbols e →
     All (λ l. l.symbol < length symbols) (label_in symbols e))
@@ -285,7 +292,7 @@ module _ (e : Expr) (symbols : List Expr) (has : HasSymbol symbols e)
       let below = below_label (length (symbols ++ later)) (label_in (symbols ++ later) e)
       (within (symbols ++ later) e (numbered symbols later e has)) in
       record {
-        numbered = made_below (length (symbols ++ later)) (leaf_machine x) t made
+        numbered = made_below (length (symbols ++ later)) (leaf_machine x) made.0.0 t made.0.2
             (below-leaf (length (symbols ++ later)) x
             (λ l among. below l (subst (λ (z : List Literal). Among z l) (same ∙ now) among)));
         graph = through (label_in (symbols ++ later)) (bool e) ends t (leaf_into (label_in (symbols ++ later)) e)
@@ -296,7 +303,7 @@ module _ (e : Expr) (symbols : List Expr) (has : HasSymbol symbols e)
             let passes : (a : word.Letter) → a ≢ word.bottom → Passes label (f a) ↔ Holds widths e a =
             λ a real. subst (λ (l : List Literal). Passes l (f a) ↔ Holds widths e a) (sym now)
             (holds widths (symbols ++ later) e a (numbered symbols later e has) real) in
-            let read = letter_reads f widths e label passes w (λ c among. All-among _ w c all among) in
+            let read = letter_reads f widths e label passes w (seen_all w all) in
             ((λ n. read.0 ((law v).0 ((made.1 v).0 n))), (λ n. (made.1 v).1 ((law v).1 (read.1 n))));
       }
 

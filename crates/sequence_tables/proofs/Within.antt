@@ -51,7 +51,7 @@ module _ (n : ℕ) where
   below-union (l ∷ ls) ms a b x h =
       below-union ls (put_literal l ms) (λ y k. a y (inr k))
       (λ y k. elim (put-among l ms y k)
-          [ inl e ↦ subst (λ (z : Literal). z.symbol < n) e (a l (inl refl)) | inr o ↦ b y o ])
+      [ inl e ↦ subst (λ (z : Literal). z.symbol < n) e (a l (inl refl)) | inr o ↦ b y o ])
       x h
 
   module _ {S : Type 0} where

@@ -8,7 +8,8 @@ use Rattle.psl_meaning.specs.Word as word
 use Rattle.auto_core.specs.declared.labels.Literal.{Literal}
 use Rattle.auto_core.specs.Machine.{Letter, Passes}
 use Rattle.auto_core.specs.Splits.{IsConcatenation, IsFusion, IsRepetition, joined}
-use Rattle.sequence_tables.proofs.Members.{Among, Among-append, Among-left, Among-right, Among-get_or, map-append}
+use Rattle.sequence_tables.proofs.Members.{Among, Among-append, Among-left, Among-right, Among-get_or, All-among}
+use Rattle.sequence_tables.proofs.Members.{map-append}
 
 module _ {X Y : Type 0} (f : X → Y) where
   pub map-nil : (w : List X) → map f w ≡ [] → w ≡ []
@@ -38,6 +39,9 @@ Seen w = (a : word.Letter) → Among w a → a ≢ word.bottom
 
 pub all_seen : (w : List word.Letter) → Seen w → All (λ a. a ≢ word.bottom) w
 all_seen w h = λ k d lt. h (get_or w k d) (Among-get_or w k d lt)
+
+pub seen_all : (w : List word.Letter) → All (λ a. a ≢ word.bottom) w → Seen w
+seen_all w all a h = All-among (λ (x : word.Letter). x ≢ word.bottom) w a all h
 
 module _ (w u v : List word.Letter) (e : w ≡ u ++ v) (seen : Seen w) where
   front_seen : Seen u

@@ -1,7 +1,7 @@
 //! The table of a core sequence, from those of its parts.
 
 ghost use Rattle.std.specs.Prelude.{◌≡◌, ◌↔◌, ◌<◌, ◌++◌, ℕ, List, length, IsTrue, IfOk, All};
-ghost use Rattle.psl_model.specs.Expr.{Expr};
+ghost use Rattle.psl_model.specs.Expr as tree;
 ghost use Rattle.psl_model.specs.View.{expr_of};
 ghost use Rattle.psl_meaning.specs.Sequence as psl;
 ghost use Rattle.psl_meaning.specs.SequenceSugar.{copies};
@@ -24,8 +24,9 @@ use sere_automata::laws::the_concatenation_accepts_one_list_after_the_other;
 use sere_automata::{Concat, Leaf, OneOf, Repeat};
 use std::alloc::{AllocError, Global};
 use symbol_alphabet::Symbols;
-use symbol_alphabet::laws::{a_label_holds_as_its_expression, a_label_is_one_literal};
-use symbol_alphabet::laws::later_symbols_change_no_label;
+use symbol_alphabet::laws::{
+    a_label_holds_as_its_expression, a_label_is_one_literal, later_symbols_change_no_label,
+};
 
 /// A table with as many edges or more isn't put into another one.
 const MANY_EDGES: usize = 0x8000_0000;
@@ -53,8 +54,8 @@ fn are_small(left: &Table, right: &Table) -> bool
 
 // The table of a Boolean, which is numbered where it wasn't seen before.
 fn leaf(alloc: Global, expr: &Expr, symbols: &mut Symbols) -> Result<Table, AllocError>
-    ensures grows { (more : List Expr) × (symbols.new ≡ symbols.old ++ more) }
-    ensures stands { IfOk result (λ table. (later : List Expr) →
+    ensures grows { (more : List tree.Expr) × (symbols.new ≡ symbols.old ++ more) }
+    ensures stands { IfOk result (λ table. (later : List tree.Expr) →
         Stands (symbols.new ++ later) (psl.bool (expr_of expr.now)) table) }
 {
     a_label_holds_as_its_expression();
@@ -65,7 +66,7 @@ fn leaf(alloc: Global, expr: &Expr, symbols: &mut Symbols) -> Result<Table, Allo
 }
 
 fn nothing(alloc: Global) -> Result<Table, AllocError>
-    ensures { IfOk result (λ table. (symbols : List Expr) → Stands symbols psl.empty table) }
+    ensures { IfOk result (λ table. (symbols : List tree.Expr) → Stands symbols psl.empty table) }
 {
     Table::of_no_letter(alloc)
 }
@@ -146,8 +147,8 @@ fn powered(alloc: Global, body: &Table, count: u32) -> Result<Table, AllocError>
 
 // The table of a core sequence, whatever symbols come later.
 fn tabled(alloc: Global, core: &CoreSere, symbols: &mut Symbols) -> Result<Table, AllocError>
-    ensures grows { (more : List Expr) × (symbols.new ≡ symbols.old ++ more) }
-    ensures stands { IfOk result (λ table. (later : List Expr) →
+    ensures grows { (more : List tree.Expr) × (symbols.new ≡ symbols.old ++ more) }
+    ensures stands { IfOk result (λ table. (later : List tree.Expr) →
         Stands (symbols.new ++ later) (meant_core (core_of core.now)) table) }
 {
     match core {
@@ -191,12 +192,12 @@ fn tabled(alloc: Global, core: &CoreSere, symbols: &mut Symbols) -> Result<Table
 ///
 /// Time and memory grow with the tables of the sequence's parts. A power is made in one go.
 pub fn build(alloc: Global, core: &CoreSere, symbols: &mut Symbols) -> Result<Table, AllocError>
-    ensures symbols { (more : List Expr) × (symbols.new ≡ symbols.old ++ more) }
+    ensures symbols { (more : List tree.Expr) × (symbols.new ≡ symbols.old ++ more) }
     ensures numbered { IfOk result (λ table.
         All (λ e. All (λ l. l.symbol < length symbols.new) e.label) table.edges) }
-    ensures words { IfOk result (λ table. (later : List Expr) →
+    ensures words { IfOk result (λ table. (later : List tree.Expr) →
         AcceptsTight (symbols.new ++ later) (meant_core (core_of core.now)) table) }
-    ensures graph { IfOk result (λ table. (later : List Expr) →
+    ensures graph { IfOk result (λ table. (later : List tree.Expr) →
         IsPlaceTable (label_in (symbols.new ++ later)) (meant_core (core_of core.now)) table) }
 {
     tabled(alloc, core, symbols)

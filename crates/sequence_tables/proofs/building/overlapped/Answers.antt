@@ -12,15 +12,15 @@ made-requires c =
     let small =
     subst (λ (g : Graph). HasAtMost (λ s. s < length g.accepting) (graph_machine g) 2147483647) c.table.ensures.same
     (c.are_small.ensures.left c.if-are_small.true) in
-    c.new-2.ensures.fits 2147483647 2147483647 tt tt small (c.are_small.ensures.right c.if-are_small.true)
+    c.new-then-are_small.ensures.fits 2147483647 2147483647 tt tt small (c.are_small.ensures.right c.if-are_small.true)
     (omega arith) (omega arith)
 
 pub returns-then-are_small : goal.returns-then-are_small
 returns-then-are_small c =
-    let x = c.new-2.result in
+    let x = c.new-then-are_small.result in
     IfOk-weaker c.made.result _ _
     (λ t made. subst (λ (g : Graph). MakesOfTwo (λ r s. fuse r s) g c.args.right.now t) c.in_ok-left.ensures.same
     (fuse_stands x.left.now x.right.now c.in_ok-left.left c.args.right.now t
-    (ap (λ z. z.left.now) c.new-2.ensures.made) (ap (λ z. z.right.now) c.new-2.ensures.made)
-    c.new-2.ensures.words made))
+    (ap (λ z. z.left.now) c.new-then-are_small.ensures.made) (ap (λ z. z.right.now) c.new-then-are_small.ensures.made)
+    c.new-then-are_small.ensures.words made))
     c.made.ensures

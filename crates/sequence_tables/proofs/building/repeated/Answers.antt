@@ -7,10 +7,13 @@ use Rattle.sequence_tables.proofs.building.repeated.Goals as goal
 
 pub made-requires : goal.made-requires
 made-requires c =
-    let few = c.are_small.ensures.left c.if-are_small.true in
-    (tt, c.requires, omega (arith, c.ranges.count.fits),
-        λ i p lt own. chain_fits (graph_machine c.args.body.now) (λ s. s < length c.args.body.now.accepting)
-        c.args.count i p own few (omega (arith, c.ranges.count.fits)))
+    let few = c.are_small.ensures.left c.if-are_small.true in (
+      tt,
+      c.requires,
+      omega (arith, c.ranges.count.fits),
+      λ i p lt own. chain_fits (graph_machine c.args.body.now) (λ s. s < length c.args.body.now.accepting)
+          c.args.count i p own few (omega (arith, c.ranges.count.fits)),
+    )
 
 pub returns-then-are_small : goal.returns-then-are_small
 returns-then-are_small c =

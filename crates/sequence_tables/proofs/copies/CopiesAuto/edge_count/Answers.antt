@@ -1,17 +1,19 @@
-use Rattle.std.proofs.Common.{◌≡◌, ◌<◌, ◌≤◌, ◌+◌, ◌-◌, ◌/◌, ◌^◌, suc, ℕ, length, arith, sym}
-use Rattle.std.proofs.lemmas.Result.{on_ok_weaker}
-use Rattle.sequence_tables.specs.inner.Copies.{later, firsts, chain_machine}
-use Rattle.sequence_tables.proofs.Chains.{later_le}
+use Rattle.std.proofs.Common.{◌^◌, arith, sym}
 use Rattle.sequence_tables.proofs.ChainPlaces.{count_ends}
 use Rattle.sequence_tables.proofs.copies.CopiesAuto.edge_count.Goals as goal
 
 pub returns-then-accepts : goal.returns-then-accepts
 returns-then-accepts g c =
-    count_ends (g.A.Auto.machine c.args.self.now.body) c.args.self.now.count c.args.state.0 c.args.state.1 c.edge_count-count.result c.later.result c.edge_count.result c.start.result
-    c.edge_count-count.ensures (sym c.if-accepts.ensures) c.later.ensures c.edge_count.ensures c.start.ensures.value
+    count_ends (g.A.Auto.machine c.args.self.now.body) c.args.self.now.count c.args.state.0 c.args.state.1
+    c.edge_count-count.result c.later.result c.edge_count.result c.start.result c.edge_count-count.ensures
+    (sym c.if-accepts.ensures) c.later.ensures c.edge_count.ensures c.start.ensures.value
 
 pub overflow_mul-result : goal.overflow_mul-result
-overflow_mul-result g c = omega (arith, returns-then-accepts g c, c.requires.fit.3 c.args.state.0 c.args.state.1 c.requires.owned.0 c.requires.owned.1)
+overflow_mul-result g c =
+    let fits = c.requires.fit.3 c.args.state.0 c.args.state.1 c.requires.owned.0 c.requires.owned.1 in
+    omega (arith, returns-then-accepts g c, fits)
 
 pub overflow_add-result : goal.overflow_add-result
-overflow_add-result g c = omega (arith, returns-then-accepts g c, c.requires.fit.3 c.args.state.0 c.args.state.1 c.requires.owned.0 c.requires.owned.1)
+overflow_add-result g c =
+    let fits = c.requires.fit.3 c.args.state.0 c.args.state.1 c.requires.owned.0 c.requires.owned.1 in
+    omega (arith, returns-then-accepts g c, fits)
