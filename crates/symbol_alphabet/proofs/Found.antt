@@ -1,7 +1,7 @@
 -- Places in lists, where a test decides which elements are equal.
-use Rattle.std.proofs.Common.{◌≡◌, ◌≢◌, ◌⊎◌, ℕ, zero, suc, ◌+◌, ◌<◌, Bool, true, false, not, cond, ◌||◌, List, [], ◌∷◌}
-use Rattle.std.proofs.Common.{◌++◌, length, get_or, slice_get, Option, Some, None, position, Contains, AllPairs, inl, inr}
-use Rattle.std.proofs.Common.{refl, sym, ap, subst, ◌∙◌, true≢false, lt-ltb, ltb-true, ltb, map, arith}
+use Rattle.std.proofs.Common.{◌≡◌, ◌≢◌, ◌⊎◌, ℕ, zero, suc, ◌+◌, ◌<◌, Bool, true, false, not, cond, ◌||◌, List, []}
+use Rattle.std.proofs.Common.{◌∷◌, ◌++◌, length, get_or, slice_get, Option, Some, None, position, Contains, AllPairs}
+use Rattle.std.proofs.Common.{inl, inr, refl, sym, ap, subst, ◌∙◌, true≢false, lt-ltb, ltb-true, ltb, map, arith}
 use Rattle.std.specs.Bool.{Decides}
 use Rattle.std.specs.List.{list_any, position_or_len}
 use Rattle.std.proofs.lemmas.Bool.{cases_Bool}
@@ -124,15 +124,7 @@ module _ {X : Type 0} (eq : X → X → Bool) (decides : (x y : X) → Decides (
             | inr e ↦ place-next y x (xs ++ x ∷ []) e ∙ ap suc (by_cases xs x (λ f. out (inr f)))
           ]
 
-  -- what `position` finds is the place of an element of the list
-  found-at : (xs : List X) (x : X) (i : ℕ) → (b : Bool) → ltb (position_or_len (eq x) xs) (length xs) ≡ b →
-      cond b (Some (position_or_len (eq x) xs)) None ≡ Some i → position_or_len (eq x) xs ≡ i
-  found-at xs x i true t e = cc
-  found-at xs x i false t e = absurd (cc)
-
-  pub found_place : (xs : List X) (x : X) (i : ℕ) → position (eq x) xs ≡ Some i → position_or_len (eq x) xs ≡ i
-  found_place xs x i e = found-at xs x i (ltb (position_or_len (eq x) xs) (length xs)) refl e
-
+  -- what `position` finds is in the list
   pub found_any : (xs : List X) (x : X) (i : ℕ) → position (eq x) xs ≡ Some i → list_any (eq x) xs ≡ true
   found_any xs x i e = elim (cases_Bool (list_any (eq x) xs)) [ inl h ↦ h | inr h ↦ absurd (lost xs x i h e) ]
     where
@@ -157,7 +149,7 @@ module _ {X : Type 0} (eq : X → X → Bool) (decides : (x y : X) → Decides (
   not_found xs x e h =
       let lt : ltb (position_or_len (eq x) xs) (length xs) ≡ true = lt-ltb _ _ (at_place xs x h).0 in
       let f : cond true (Some (position_or_len (eq x) xs)) None ≡ None =
-          subst (λ (b : Bool). cond b (Some (position_or_len (eq x) xs)) None ≡ None) lt e in
+      subst (λ (b : Bool). cond b (Some (position_or_len (eq x) xs)) None ≡ None) lt e in
       absurd (cc)
 
 -- ---- read through a function

@@ -1,7 +1,7 @@
 -- Labels and letters, read through symbols.
 use Rattle.std.proofs.Common.{◌≡◌, ◌≢◌, ◌↔◌, ◌⊎◌, ℕ, suc, ◌+◌, ◌<◌, Bool, true, false, not, cond, List, [], ◌∷◌, ◌++◌}
 use Rattle.std.proofs.Common.{length, get_or, slice_get, Some, None, map, All, Contains, inl, inr, refl, sym, ap, subst}
-use Rattle.std.proofs.Common.{◌∙◌, true≢false, if◌then◌else◌, arith, zero, option_map}
+use Rattle.std.proofs.Common.{◌∙◌, true≢false, if◌then◌else◌, arith, zero, option_map, append-nil}
 use Rattle.std.specs.Bool.{Decides}
 use Rattle.std.specs.List.{list_any, position_or_len, AllByRecursion}
 use Rattle.std.proofs.lemmas.Bool.{cases_Bool}
@@ -82,6 +82,22 @@ with_new symbols e out = elim (cases_Bool (needs_none e)) [
   | inr h ↦ with_needed symbols e h ∙ numbered_new symbols (stripped e) (λ there. out (inr there))
 ]
 
+numbered-grows : (symbols : List Expr) (e : Expr) (b : Bool) →
+    (more : List Expr) × ((if b then symbols else symbols ++ e ∷ []) ≡ symbols ++ more)
+numbered-grows symbols e true = ([], sym (append-nil symbols))
+numbered-grows symbols e false = (e ∷ [], refl)
+
+pub numbered_grows : (symbols : List Expr) (e : Expr) → (more : List Expr) × (numbered symbols e ≡ symbols ++ more)
+numbered_grows symbols e = numbered-grows symbols e (list_any (same e) symbols)
+
+with-grows : (symbols : List Expr) (e : Expr) (b : Bool) →
+    (more : List Expr) × ((if b then symbols else numbered symbols (stripped e)) ≡ symbols ++ more)
+with-grows symbols e true = ([], sym (append-nil symbols))
+with-grows symbols e false = numbered_grows symbols (stripped e)
+
+pub with_grows : (symbols : List Expr) (e : Expr) → (more : List Expr) × (with_symbol symbols e ≡ symbols ++ more)
+with_grows symbols e = with-grows symbols e (needs_none e)
+
 pub with_different : (symbols : List Expr) (e : Expr) → AreDifferent symbols → AreDifferent (with_symbol symbols e)
 with_different symbols e all = elim (cases_Bool (needs_none e)) [
   | inl h ↦ subst AreDifferent (sym (with_none symbols e h)) all
@@ -149,10 +165,10 @@ passes_holds widths symbols e (valuation values) has out =
       | inr h ↦
           let found = literal_at symbols e has h in
           let at : value_in (truths widths symbols values) found.0 ≡ truth widths values (stripped e) =
-              value_at widths symbols values found.0 (stripped e) found.1 in (
+          value_at widths symbols values found.0 (stripped e) found.1 in (
             (λ p.
                 let k = subst (λ (ls : List Literal). Passes ls (seen_by widths symbols (valuation values)))
-                    found.2 p in
+                found.2 p in
                 not_zero widths values e ((as_signed widths values e).0 (sym at ∙ k.0))),
             (λ q. subst (λ (ls : List Literal). Passes ls (seen_by widths symbols (valuation values))) (sym found.2)
                 (at ∙ (as_signed widths values e).1 (is_true widths values e q), tt)),

@@ -1,6 +1,6 @@
 //! Laws of symbols, of labels and of letters. The functions do nothing: each contract is the law.
 
-ghost use Rattle.std.specs.Prelude.{◌≡◌, ◌≢◌, ◌↔◌, ◌<◌, ◌++◌, ℕ, List, [], ◌∷◌, All, Some, Contains, IsTrue, true, false};
+ghost use Rattle.std.specs.Prelude.{◌≡◌, ◌≢◌, ◌↔◌, ◌<◌, ◌++◌, ℕ, List, [], ◌∷◌, All, Some, IsTrue, true, false};
 ghost use Rattle.std.specs.Prelude.{length, slice_get};
 ghost use Rattle.auto_core.specs.Machine.{Passes};
 ghost use Rattle.auto_core.specs.declared.labels.Literal.{Literal};
@@ -22,6 +22,8 @@ pub fn an_expression_is_numbered_once()
     ensures known { (symbols : List Expr) (e : Expr) → HasSymbol symbols e → with_symbol symbols e ≡ symbols }
     ensures new { (symbols : List Expr) (e : Expr) →
         ¬ HasSymbol symbols e → with_symbol symbols e ≡ symbols ++ stripped e ∷ [] }
+    ensures grows { (symbols : List Expr) (e : Expr) →
+        (more : List Expr) × (with_symbol symbols e ≡ symbols ++ more) }
     ensures different { (symbols : List Expr) (e : Expr) →
         AreDifferent symbols → AreDifferent (with_symbol symbols e) }
 {}

@@ -128,7 +128,12 @@ impl Symbols {
     }
 
     // The label of an expression that wasn't seen, which gets the next number.
-    fn new_literal(&mut self, alloc: Global, expr: &Expr, positive: bool) -> Result<Label, AllocError>
+    fn new_literal(
+        &mut self,
+        alloc: Global,
+        expr: &Expr,
+        positive: bool,
+    ) -> Result<Label, AllocError>
         requires { ¬ Contains self.old (expr_of expr.now) }
         ensures symbols { OnOk result (self.new ≡ self.old ++ expr_of expr.now ∷ []) }
         ensures label { IfOk result (λ label. label ≡ record { symbol = length self.old; positive = positive } ∷ []) }
@@ -159,6 +164,7 @@ impl Symbols {
     /// After want of memory the symbols are those that were there.
     pub fn label(&mut self, alloc: Global, expr: &Expr) -> Result<Label, AllocError>
         ensures symbols { OnOk result (self.new ≡ with_symbol self.old (expr_of expr.now)) }
+        ensures grows { (more : List tree.Expr) × (self.new ≡ self.old ++ more) }
         ensures label { IfOk result (λ label. label ≡ label_in self.new (expr_of expr.now)) }
         ensures numbered { OnOk result (HasSymbol self.new (expr_of expr.now)) }
         ensures within { IfOk result (λ label. All (λ l. l.symbol < length self.new) label) }

@@ -41,7 +41,10 @@ fn expressions_are_numbered_as_first_seen(rt: HostRuntime) -> Result<(), Fail> {
     ] {
         let label = labelled(alloc, &mut symbols, nots, signal)?;
         let found = label.literals().first().map(|l| (l.symbol, l.positive));
-        assert!(rt; found == literal && label.literals().len() < 2, "{nots} before {signal:?}");
+        assert!(rt;
+            found == literal && label.literals().len() < 2,
+            "{nots} before {signal:?}"
+        );
         assert_eq!(rt; symbols.count(), count);
     }
     assert!(rt; matches!(symbols.get(0), Some(Expr::Whole(3))));

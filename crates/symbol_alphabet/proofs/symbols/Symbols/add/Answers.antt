@@ -12,7 +12,7 @@ pub invariant_of-self : goal.invariant_of-self
 invariant_of-self c =
     let keys = c.self.inside.numbered.keys in
     let out : Contains (map expr_of keys) (expr_of c.args.expr) → ⊥ =
-        subst (λ (s : List Expr). Contains s (expr_of c.args.expr) → ⊥) (sym c.self.view_is) c.requires in
+    subst (λ (s : List Expr). Contains s (expr_of c.args.expr) → ⊥) (sym c.self.view_is) c.requires in
     elim c.match-insert.branch [
       | in-Ok w ↦ subst AreDifferent (sym (pushed keys c.insert.new.self.keys c.args.expr out w.in-Ok.ensures.keys))
           (different_push (map expr_of keys) (expr_of c.args.expr) c.self.invariant out)
@@ -24,7 +24,7 @@ pub returns-clause-ok : goal.returns-clause-ok
 returns-clause-ok c =
     let keys = c.self.inside.numbered.keys in
     let out : Contains (map expr_of keys) (expr_of c.args.expr) → ⊥ =
-        subst (λ (s : List Expr). Contains s (expr_of c.args.expr) → ⊥) (sym c.self.view_is) c.requires in
+    subst (λ (s : List Expr). Contains s (expr_of c.args.expr) → ⊥) (sym c.self.view_is) c.requires in
     elim c.match-insert.branch [
       | in-Ok w ↦ rw w.result-is (pushed keys c.insert.new.self.keys c.args.expr out w.in-Ok.ensures.keys
           ∙ ap (λ (s : List Expr). s ++ expr_of c.args.expr ∷ []) c.self.view_is)

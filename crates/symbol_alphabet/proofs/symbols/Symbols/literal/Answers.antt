@@ -17,7 +17,7 @@ returns-in-Some-clause-symbols c =
     let symbols = c.args.self.now in
     let e = expr_of c.args.expr.now in
     on_ok c.one_literal.result (sym (numbered_there symbols e
-        (found_any same same_decides symbols e c.in-Some.symbol (sym c.number.ensures ∙ c.in-Some.is))))
+    (found_any same same_decides symbols e c.in-Some.symbol (sym c.number.ensures ∙ c.in-Some.is))))
 
 pub returns-in-None-clause-symbols : goal.returns-in-None-clause-symbols
 returns-in-None-clause-symbols c =
@@ -32,8 +32,8 @@ returns-in-None-clause-label c =
     let e = expr_of c.args.expr.now in
     let out = not_found same same_decides symbols e (sym c.number.ensures ∙ c.in-None.is) in
     if_both c.new_literal.result
-        (λ label l s.
-            let at : length symbols ≡ place_in c.new_literal.new.self e =
-                sym (ap (λ (more : List Expr). place_in more e) s ∙ place_at_end same same_decides symbols e out) in
-            l ∙ (λ i. record { symbol = at i; positive = c.args.positive } ∷ []))
-        c.new_literal.ensures.label c.new_literal.ensures.symbols
+    (λ label l s.
+    let at : length symbols ≡ place_in c.new_literal.new.self e =
+    sym (ap (λ (more : List Expr). place_in more e) s ∙ place_at_end same same_decides symbols e out) in
+    l ∙ (λ i. record { symbol = at i; positive = c.args.positive } ∷ []))
+    c.new_literal.ensures.label c.new_literal.ensures.symbols
