@@ -1,3 +1,4 @@
+pub mod Arms
 pub mod ChainPlaces
 pub mod Chains
 pub mod Embeds
