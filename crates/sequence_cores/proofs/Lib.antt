@@ -1,0 +1,4 @@
+pub mod Told
+pub mod Copies
+pub mod Words
+pub mod Counts
