@@ -1,12 +1,11 @@
 -- Leading `!` and the truth of an expression.
-use Rattle.std.proofs.Common.{◌≡◌, ◌≢◌, ℕ, Bool, true, false, not, ◌==◌, ◌&&◌, cond, List, refl, sym, ap, subst, ◌∙◌}
-use Rattle.std.proofs.Common.{inl, inr, true≢false, eqb, eqb-true, arith}
+use Rattle.std.proofs.Common.{◌≡◌, ◌≢◌, ℕ, Bool, true, false, not, ◌==◌, ◌&&◌, List, refl, sym, ap, ◌∙◌}
+use Rattle.std.proofs.Common.{inl, inr, true≢false, eqb-true}
 use Rattle.std.proofs.lemmas.Bool.{cases_Bool}
 use Rattle.psl_meaning.specs.Word.{Valuation}
-use Rattle.psl_model.specs.Expr.{Expr, whole, bit, part, plain, sized, unary, binary, choice}
+use Rattle.psl_model.specs.Expr.{Expr, sized, unary}
 use Rattle.psl_model.specs.Value.{own_value, bit_of}
-use Rattle.psl_model.specs.declared.operators.UnOp.{UnOp}
-use Rattle.psl_model.specs.declared.operators.UnOp.TheVariants.{Not, Flip, AllOnes, AnyOne, Parity}
+use Rattle.psl_model.specs.declared.operators.UnOp.TheVariants.{Not}
 use Rattle.symbol_alphabet.specs.Symbols.{stripped, is_positive, is_one, needs_none, truth}
 
 module _ (widths : List ℕ) (values : Valuation) where

@@ -5,7 +5,7 @@
 --     HasSymbol symbols e            the symbols have what the label of e speaks of
 --     seen_by widths symbols a       what an automaton sees of a letter
 use Rattle.std.specs.Prelude.{◌≡◌, ◌≢◌, ◌⊎◌, ℕ, Bool, true, false, not, ◌==◌, ◌&&◌, if◌then◌else◌}
-use Rattle.std.specs.Prelude.{List, [], ◌∷◌, ◌++◌, map, Option, Some, None, AllPairs, Contains}
+use Rattle.std.specs.Prelude.{List, [], ◌∷◌, ◌++◌, map, Some, None, AllPairs, Contains}
 use Rattle.std.specs.List.{list_any, position_or_len}
 use Rattle.auto_core.specs.declared.labels.Literal.{Literal}
 use Rattle.auto_core.specs.Machine.{Letter, value_in}

@@ -1,4 +1,4 @@
-use Rattle.std.proofs.Common.{◌≡◌, ◌∙◌, ◌++◌, ◌∷◌, [], List, Contains, map, sym, ap, subst}
+use Rattle.std.proofs.Common.{◌∙◌, ◌++◌, ◌∷◌, [], List, Contains, map, sym, ap, subst}
 use Rattle.psl_model.specs.Expr.{Expr}
 use Rattle.psl_model.specs.View.{expr_of}
 use Rattle.psl_model.specs.declared.expressions.Expr as code
