@@ -1,0 +1,15 @@
+pub mod Arms
+pub mod ChainPlaces
+pub mod Chains
+pub mod Embeds
+pub mod Forms
+pub mod Into
+pub mod Leads
+pub mod Maps
+pub mod Members
+pub mod Parts
+pub mod Places
+pub mod Powers
+pub mod Tables
+pub mod Within
+pub mod Words

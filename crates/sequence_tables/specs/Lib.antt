@@ -1,0 +1,3 @@
+pub mod PlaceTable
+pub mod Words
+pub mod inner

@@ -1,0 +1,3 @@
+-- What the private functions say of themselves. No public clause cites these definitions.
+pub mod Built
+pub mod Copies

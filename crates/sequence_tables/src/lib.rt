@@ -1,0 +1,7 @@
+//! The table of a core sequence.
+#![tactic(auto)]
+
+mod building;
+mod copies;
+
+pub use building::build;
