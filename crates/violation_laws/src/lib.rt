@@ -3,12 +3,15 @@
 #![tactic(auto)]
 
 ghost use Rattle.std.specs.Prelude.{◌≡◌, ◌≢◌, ◌↔◌, ◌<◌, ◌≤◌, ℕ, suc, List, [], Bool, false, IsTrue, All, drop, length};
-ghost use Rattle.std.specs.Prelude.{take};
+ghost use Rattle.std.specs.Prelude.{map, take};
 ghost use Rattle.psl_model.specs.Expr.{Expr};
 ghost use Rattle.psl_model.specs.Value.{own_value};
-ghost use Rattle.psl_model.specs.Formula.{Formula, bool, next, until};
+ghost use Rattle.psl_model.specs.Formula.{Formula, bool, next, suffix, until};
+ghost use Rattle.psl_model.specs.Sere.{Sere};
 ghost use Rattle.psl_model.specs.declared.formulas.Reach.TheVariants as reach;
-ghost use Rattle.psl_meaning.specs.Word.{Valuation};
+ghost use Rattle.psl_meaning.specs.Sequence.{Tight};
+ghost use Rattle.psl_meaning.specs.SequenceSugar.{core_of};
+ghost use Rattle.psl_meaning.specs.Word.{Valuation, valuation};
 ghost use Rattle.psl_meaning.specs.Violation.{WeaklyViolates, Violates};
 
 use psl_meaning::laws::{bar_of_bar_is_the_word, everywhere_is_each_place};
@@ -66,3 +69,21 @@ pub fn until_is_its_body_before_the_stop()
     bar_of_bar_is_the_word();
     everywhere_is_each_place();
 }
+
+/// A list leaves `r |-> f` open exactly if what is left of it leaves `f` open from each place at which a prefix that
+/// satisfies the sequence ends. What follows the list may end further prefixes, so `f` must be open at its end too.
+pub fn suffix_is_its_body_after_each_match_so_far()
+    ensures { (widths : List ℕ) (r : Sere) (f : Formula) (trace : List Valuation) → ¬ WeaklyViolates widths f [] →
+        ¬ WeaklyViolates widths (suffix r false f) trace
+        ↔ ((k : ℕ) → k < length trace → Tight widths (core_of r) (map valuation (take (suc k) trace)) →
+        ¬ WeaklyViolates widths f (drop k trace)) }
+{}
+
+/// As a word that ends, a list does not violate `r |-> f` exactly if what is left of it does not violate `f` from each
+/// place at which a prefix that satisfies the sequence ends.
+pub fn suffix_is_its_body_after_each_match()
+    ensures { (widths : List ℕ) (r : Sere) (f : Formula) (trace : List Valuation) →
+        ¬ Violates widths (suffix r false f) trace
+        ↔ ((k : ℕ) → k < length trace → Tight widths (core_of r) (map valuation (take (suc k) trace)) →
+        ¬ Violates widths f (drop k trace)) }
+{}
