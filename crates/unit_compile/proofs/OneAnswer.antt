@@ -12,10 +12,10 @@ use Rattle.psl_model.specs.declared.refusals.Refusal.{Refusal}
 use Rattle.psl_model.specs.Unit.{PslUnit}
 use Rattle.psl_units.specs.StandsForUnit.{StandsForUnit}
 use Rattle.unit_compile.specs.Offsets.{token_refusal, rule_refusal}
-use Rattle.unit_compile.specs.Built.{AreBuilt, first_unfit, first_full}
+use Rattle.unit_compile.specs.Directives.{unit_refusal}
 use Rattle.unit_compile.specs.Made.{IsAccepted}
-use Rattle.unit_compile.specs.Refused.{IsFaultOfTokens, IsFaultOfGrammar, IsFaultOfRules, IsUnfit, IsFull, IsRefused}
-use Rattle.unit_compile.specs.Refused.{tokens, grammar, rules, unfit, full, ComesFor}
+use Rattle.unit_compile.specs.Refused.{IsFaultOfTokens, IsFaultOfGrammar, IsFaultOfRules, IsFaultOfDirectives}
+use Rattle.unit_compile.specs.Refused.{IsRefused, tokens, grammar, rules, directives, ComesFor}
 
 abbrev pub OneSplit : Type 0
 OneSplit = (text : List ℕ) (ts others : List Token) → Splits 0 text ts → Splits 0 text others → ts ≡ others
@@ -95,73 +95,47 @@ module _ (one_split : OneSplit) (not_both : NotBoth) (one_fault : OneFault) (one
       same_fault : {a b : UnitError} (o : Option UnitError) → o ≡ Some a → o ≡ Some b → a ≡ b
       same_fault o p q = cc
 
-  unfit_as : (unit : PslUnit) (r : Refusal) (h : IsUnfit text r) → StandsForUnit text unit
-      → first_unfit 1 unit.directives ≡ Some r
-  unfit_as unit r h s =
-      subst (λ (u : PslUnit). first_unfit 1 u.directives ≡ Some r) (one_unit text h.unit unit h.stands s) h.first
+  judged_as : (unit : PslUnit) (r : Refusal) (h : IsFaultOfDirectives text r) → StandsForUnit text unit
+      → unit_refusal unit ≡ Some r
+  judged_as unit r h s =
+      subst (λ (u : PslUnit). unit_refusal u ≡ Some r) (one_unit text h.unit unit h.stands s) h.first
 
-  built_or_not : (unit : PslUnit) (r : Refusal) → StandsForUnit text unit → AreBuilt unit → IsUnfit text r → ⊥
-  built_or_not unit r s built h = no_refusal (first_unfit 1 unit.directives) r built (unfit_as unit r h s)
-
-  same_unfit : (due r : Refusal) → IsUnfit text due → IsUnfit text r → r ≡ due
-  same_unfit due r h g = one_some (first_unfit 1 h.unit.directives) due r h.first (unfit_as h.unit r g h.stands)
-
-  full_as : (unit : PslUnit) (r : Refusal) (h : IsFull text r) → StandsForUnit text unit
-      → first_full 1 unit.directives ≡ Some r
-  full_as unit r h s =
-      subst (λ (u : PslUnit). first_full 1 u.directives ≡ Some r) (one_unit text h.unit unit h.stands s) h.first
-
-  same_full : (due r : Refusal) → IsFull text due → IsFull text r → r ≡ due
-  same_full due r h g = one_some (first_full 1 h.unit.directives) due r h.first (full_as h.unit r g h.stands)
+  same_directive : (due r : Refusal) → IsFaultOfDirectives text due → IsFaultOfDirectives text r → r ≡ due
+  same_directive due r h g = one_some (unit_refusal h.unit) due r h.first (judged_as h.unit r g h.stands)
 
   -- the second reason against the first
   after_tokens : (due r : Refusal) → IsFaultOfTokens text due → IsRefused text r → ComesFor text due r
   after_tokens due r h (tokens g) = inr (inl (same_token_fault due r h g))
   after_tokens due r h (grammar g) = absurd (split_faultless g.tokens due g.split h)
   after_tokens due r h (rules g) = absurd (split_faultless g.tokens due g.split h)
-  after_tokens due r h (unfit g) = absurd (split_faultless g.stands.tokens due g.stands.split h)
-  after_tokens due r h (full g) = absurd (split_faultless g.stands.tokens due g.stands.split h)
+  after_tokens due r h (directives g) = absurd (split_faultless g.stands.tokens due g.stands.split h)
 
   after_grammar : (due r : Refusal) → IsFaultOfGrammar text due → IsRefused text r → ComesFor text due r
   after_grammar due r h (tokens g) = absurd (split_faultless h.tokens r h.split g)
   after_grammar due r h (grammar g) = inr (inr (h, g))
   after_grammar due r h (rules g) = absurd (written_faultless due (broken_of text r g) h)
-  after_grammar due r h (unfit g) = absurd (written_faultless due (written_of text g.unit g.stands) h)
-  after_grammar due r h (full g) = absurd (written_faultless due (written_of text g.unit g.stands) h)
+  after_grammar due r h (directives g) = absurd (written_faultless due (written_of text g.unit g.stands) h)
 
   after_rules : (due r : Refusal) → IsFaultOfRules text due → IsRefused text r → ComesFor text due r
   after_rules due r h (tokens g) = absurd (split_faultless h.tokens r h.split g)
   after_rules due r h (grammar g) = absurd (written_faultless r (broken_of text due h) g)
   after_rules due r h (rules g) = inr (inl (same_rule due r h g))
-  after_rules due r h (unfit g) = absurd (lawful_unbroken g.unit due g.stands h)
-  after_rules due r h (full g) = absurd (lawful_unbroken g.unit due g.stands h)
+  after_rules due r h (directives g) = absurd (lawful_unbroken g.unit due g.stands h)
 
-  after_unfit : (due r : Refusal) → IsUnfit text due → IsRefused text r → ComesFor text due r
-  after_unfit due r h (tokens g) = absurd (split_faultless h.stands.tokens r h.stands.split g)
-  after_unfit due r h (grammar g) = absurd (written_faultless r (written_of text h.unit h.stands) g)
-  after_unfit due r h (rules g) = absurd (lawful_unbroken h.unit r h.stands g)
-  after_unfit due r h (unfit g) = inr (inl (same_unfit due r h g))
-  after_unfit due r h (full g) = absurd (built_or_not g.unit due g.stands g.built h)
-
-  after_full : (due r : Refusal) → IsFull text due → IsRefused text r → ComesFor text due r
-  after_full due r h (tokens g) = absurd (split_faultless h.stands.tokens r h.stands.split g)
-  after_full due r h (grammar g) = absurd (written_faultless r (written_of text h.unit h.stands) g)
-  after_full due r h (rules g) = absurd (lawful_unbroken h.unit r h.stands g)
-  after_full due r h (unfit g) = absurd (built_or_not h.unit r h.stands h.built g)
-  after_full due r h (full g) = inr (inl (same_full due r h g))
+  after_directives : (due r : Refusal) → IsFaultOfDirectives text due → IsRefused text r → ComesFor text due r
+  after_directives due r h (tokens g) = absurd (split_faultless h.stands.tokens r h.stands.split g)
+  after_directives due r h (grammar g) = absurd (written_faultless r (written_of text h.unit h.stands) g)
+  after_directives due r h (rules g) = absurd (lawful_unbroken h.unit r h.stands g)
+  after_directives due r h (directives g) = inr (inl (same_directive due r h g))
 
   pub one_refusal : (due r : Refusal) → IsRefused text due → IsRefused text r → ComesFor text due r
   one_refusal due r (tokens h) g = after_tokens due r h g
   one_refusal due r (grammar h) g = after_grammar due r h g
   one_refusal due r (rules h) g = after_rules due r h g
-  one_refusal due r (unfit h) g = after_unfit due r h g
-  one_refusal due r (full h) g = after_full due r h g
+  one_refusal due r (directives h) g = after_directives due r h g
 
   pub not_accepted : (r : Refusal) → IsRefused text r → IsAccepted text → ⊥
   not_accepted r (tokens h) a = split_faultless a.stands.tokens r a.stands.split h
   not_accepted r (grammar h) a = written_faultless r (written_of text a.unit a.stands) h
   not_accepted r (rules h) a = lawful_unbroken a.unit r a.stands h
-  not_accepted r (unfit h) a = built_or_not a.unit r a.stands a.built h
-  not_accepted r (full h) a =
-      let some : first_full 1 a.unit.directives ≡ Some r = full_as a.unit r h a.stands in
-      absurd (no_refusal (first_full 1 a.unit.directives) r a.within some)
+  not_accepted r (directives h) a = no_refusal (unit_refusal a.unit) r a.unrefused (judged_as a.unit r h a.stands)

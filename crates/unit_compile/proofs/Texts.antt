@@ -23,9 +23,9 @@ use Rattle.verilog_text.specs.Module.{Module}
 use Rattle.psl_units.specs.StandsForUnit.{StandsForUnit}
 use Rattle.psl_units.specs.Unit.{unit_for}
 use Rattle.unit_compile.specs.Offsets.{token_refusal, grammar_refusal, rule_refusal}
-use Rattle.unit_compile.specs.Built.{AreBuilt, first_full}
+use Rattle.unit_compile.specs.Directives.{unit_refusal}
 use Rattle.unit_compile.specs.Made.{AreMade, AreModulesOf}
-use Rattle.unit_compile.specs.Refused.{IsRefused, tokens, grammar, rules, unfit, full}
+use Rattle.unit_compile.specs.Refused.{IsRefused, tokens, grammar, rules, directives}
 use Rattle.unit_compile.specs.inner.Unmade.{IsUncompiled}
 
 abbrev pub IsRight : (text : List ℕ) → Refusal → Type 0
@@ -80,8 +80,7 @@ rule_fault text ts raw error r split written (inr first) told =
 module _ (text : List ℕ) (unit : PslUnit) (stands : StandsForUnit text unit) where
   uncompiled : (r : Refusal) → IsUncompiled unit r → IsRight text r
   uncompiled r (inl memory) = inl memory
-  uncompiled r (inr (inl h)) = inr (unfit (record { unit = unit; stands = stands; first = h }))
-  uncompiled r (inr (inr h)) = inr (full (record { unit = unit; stands = stands; built = h.0; first = h.1 }))
+  uncompiled r (inr h) = inr (directives (record { unit = unit; stands = stands; first = h }))
 
   module _ {T : Type 0} (plain : T → List Module) where
     pub unit_refused : (r : Result T Refusal) → IfErr r (IsUncompiled unit) → IfErr r (IsRight text)
@@ -90,15 +89,15 @@ module _ (text : List ℕ) (unit : PslUnit) (stands : StandsForUnit text unit) w
 
     pub unit_made : ((modules : List Module) → AreMade unit 1 unit.directives modules
         → AllPairs (λ m n. m ≢ n) (map (λ (m : Module). m.name) modules)) → (r : Result T Refusal)
-        → IfOk r (λ made. AreMade unit 1 unit.directives (plain made)) → OnOk r (AreBuilt unit)
-        → OnOk r (first_full 1 unit.directives ≡ None) → IfOk r (λ made. AreModulesOf text (plain made))
-    unit_made distinct (Ok made) h built within =
+        → IfOk r (λ made. AreMade unit 1 unit.directives (plain made)) → OnOk r (unit_refusal unit ≡ None)
+        → IfOk r (λ made. AreModulesOf text (plain made))
+    unit_made distinct (Ok made) h unrefused =
         record {
-          accepted = record { unit = unit; stands = stands; built = built; within = within };
+          accepted = record { unit = unit; stands = stands; unrefused = unrefused };
           made = h;
           distinct = distinct (plain made) h;
         }
-    unit_made distinct (Err e) h built within = tt
+    unit_made distinct (Err e) h unrefused = tt
 
 pub stands_by : (text : List ℕ) (ts : List Token) (raw : RawUnit) (unit : PslUnit) → Splits 0 text ts
     → IsUnit text ts raw → refusal (source text ts) raw ≡ None → unit ≡ unit_for (source text ts) raw

@@ -1,5 +1,5 @@
 pub mod Offsets
-pub mod Built
+pub mod Directives
 pub mod Made
 pub mod Refused
 pub mod inner

@@ -1,5 +1,5 @@
 -- The modules of a text: one checker for each directive of the unit for which it stands.
---     IsAccepted text              the text stands for a unit of which checkers are made
+--     IsAccepted text              the text stands for a unit of which no directive is refused
 --     AreModulesOf text modules    and these are its modules
 --     IsTextOfModules text out     and this is the text of its modules
 use Rattle.std.specs.Prelude.{◌≡◌, ◌≢◌, ◌≤◌, ℕ, suc, None, List, [], ◌∷◌, map, flat_map, sum, AllPairs}
@@ -9,7 +9,7 @@ use Rattle.verilog_text.specs.State.{register_widths}
 use Rattle.verilog_text.specs.Text.{spelling}
 use Rattle.checker_meaning.specs.Headline.{IsCheckerOf}
 use Rattle.psl_units.specs.StandsForUnit.{StandsForUnit}
-use Rattle.unit_compile.specs.Built.{AreBuilt, bits_of, first_full}
+use Rattle.unit_compile.specs.Directives.{bits_of, unit_refusal}
 
 -- the module of the unit's directive with this number
 pub record IsMade (unit : PslUnit) (number : ℕ) (directive : Directive) (m : Module) : Type 0 where
@@ -27,8 +27,7 @@ AreMade unit from _ _ = ⊥
 pub record IsAccepted (text : List ℕ) : Type 0 where
   pub unit : PslUnit
   pub stands : StandsForUnit text unit
-  pub built : AreBuilt unit
-  pub within : first_full 1 unit.directives ≡ None
+  pub unrefused : unit_refusal unit ≡ None
 
 pub record AreModulesOf (text : List ℕ) (modules : List Module) : Type 0 where
   pub accepted : IsAccepted text

@@ -1,7 +1,6 @@
 -- Why a text has no modules. The reasons stand in the order in which they are looked for, and each presupposes that
--- none before it applies: the first fault of the tokens, a fault of the grammar, the first broken rule, the first
--- directive that is outside the simple subset or isn't built, and the first directive whose checker would have too many
--- bits of registers.
+-- none before it applies: the first fault of the tokens, a fault of the grammar, the first broken rule, and the first
+-- refusal of a directive.
 --     IsRefused text r         r is told for such a reason
 --     ComesFor text due r      r may be answered where `due` is told for such a reason
 use Rattle.std.specs.Prelude.{◌≡◌, ◌≢◌, ◌⊎◌, ℕ, Some, List}
@@ -22,7 +21,7 @@ use Rattle.psl_model.specs.declared.refusals.Refusal.TheVariants.{OutOfMemory}
 use Rattle.psl_model.specs.Unit.{PslUnit}
 use Rattle.psl_units.specs.StandsForUnit.{StandsForUnit}
 use Rattle.unit_compile.specs.Offsets.{token_refusal, grammar_refusal, rule_refusal}
-use Rattle.unit_compile.specs.Built.{AreBuilt, first_unfit, first_full}
+use Rattle.unit_compile.specs.Directives.{unit_refusal}
 
 pub record IsFaultOfTokens (text : List ℕ) (r : Refusal) : Type 0 where
   pub fault : LexError
@@ -49,23 +48,16 @@ pub record IsFaultOfRules (text : List ℕ) (r : Refusal) : Type 0 where
   pub first : refusal (source text tokens) raw ≡ Some fault
   pub told : r ≡ rule_refusal text tokens fault
 
-pub record IsUnfit (text : List ℕ) (r : Refusal) : Type 0 where
+pub record IsFaultOfDirectives (text : List ℕ) (r : Refusal) : Type 0 where
   pub unit : PslUnit
   pub stands : StandsForUnit text unit
-  pub first : first_unfit 1 unit.directives ≡ Some r
-
-pub record IsFull (text : List ℕ) (r : Refusal) : Type 0 where
-  pub unit : PslUnit
-  pub stands : StandsForUnit text unit
-  pub built : AreBuilt unit
-  pub first : first_full 1 unit.directives ≡ Some r
+  pub first : unit_refusal unit ≡ Some r
 
 pub data IsRefused (text : List ℕ) (r : Refusal) : Type 0 where
   tokens : IsFaultOfTokens text r → IsRefused text r
   grammar : IsFaultOfGrammar text r → IsRefused text r
   rules : IsFaultOfRules text r → IsRefused text r
-  unfit : IsUnfit text r → IsRefused text r
-  full : IsFull text r → IsRefused text r
+  directives : IsFaultOfDirectives text r → IsRefused text r
 
 -- the refusal itself, or another fault of the grammar; want of memory may come in place of any
 abbrev pub ComesFor : (text : List ℕ) → (due r : Refusal) → Type 0

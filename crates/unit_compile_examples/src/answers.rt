@@ -185,13 +185,72 @@ fn a_checker_has_65536_registers_at_most(rt: HostRuntime) -> Result<(), Fail> {
     Ok(())
 }
 
-#[test]
-fn the_forms_of_directives_come_before_their_registers(rt: HostRuntime) -> Result<(), Fail> {
-    let text = nested_next(
-        rt.alloc(),
+/// Units of which one directive has too many registers: what stands before and behind its sixteen `next`.
+static TOO_FULL: [(&[u8], &[u8], Refusal); 8] = [
+    (
+        b"vunit u { assert next[4096](",
+        b"; assert a until (always b); }",
+        Refusal::TooManyRegisters {
+            directive: 1,
+            count: 65_537,
+        },
+    ),
+    (
+        b"vunit u { assert a until (always b); assert next[4096](",
+        b"; }",
+        Refusal::Subset {
+            directive: 1,
+            rule: 7,
+        },
+    ),
+    (
+        b"vunit u { assert {a;b}; assert next[4096](",
+        b"; }",
+        Refusal::Unbuilt,
+    ),
+    (
         b"vunit u { assert next[4096](",
         b"; assert {a;b}; }",
-    )?;
-    assert!(rt; is_refused(rt.alloc(), &text, &Refusal::Unbuilt));
+        Refusal::TooManyRegisters {
+            directive: 1,
+            count: 65_537,
+        },
+    ),
+    (
+        b"vunit u { assert a; assert always next[4096](",
+        b"; assert {a;b}; assert a until (always b); }",
+        Refusal::TooManyRegisters {
+            directive: 2,
+            count: 65_538,
+        },
+    ),
+    // One directive is judged by its form first.
+    (
+        b"vunit u { assert (always a) || (always next[4096](",
+        b"); }",
+        Refusal::Subset {
+            directive: 1,
+            rule: 4,
+        },
+    ),
+    (
+        b"vunit u { assert {a;b} |-> next[4096](",
+        b"; }",
+        Refusal::Unbuilt,
+    ),
+    // What stands against the unit as a whole comes before what stands against a directive.
+    (
+        b"vunit u { assert next[4096](",
+        b"; assert 1 < 2; }",
+        Refusal::ConstantArithmetic { offset: 221 },
+    ),
+];
+
+#[test]
+fn directives_are_judged_one_after_the_other(rt: HostRuntime) -> Result<(), Fail> {
+    for (front, end, refusal) in &TOO_FULL {
+        let text = nested_next(rt.alloc(), front, end)?;
+        assert!(rt; is_refused(rt.alloc(), &text, refusal), "{text:?}");
+    }
     Ok(())
 }

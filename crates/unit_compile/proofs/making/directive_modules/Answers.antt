@@ -3,12 +3,12 @@ use Rattle.psl_model.specs.declared.units.Directive.{Directive}
 use Rattle.psl_model.specs.UnitView.{unit_of, directive_of}
 use Rattle.verilog_text.specs.declared.module.Module.{Module}
 use Rattle.verilog_text.specs.View.{module_of}
-use Rattle.mbac_compile.specs.Built.{IsBuilt}
 use Rattle.mbac_compile.specs.Units.{IsWellWorded, IsWellFormed}
 use Rattle.unit_compile.specs.Made.{AreMade}
-use Rattle.unit_compile.proofs.Loops.{plain, StandsAt, has_at, made_next, made_whole, fit_next, fit_whole, unfilled}
-use Rattle.unit_compile.specs.inner.Unmade.{IsUnfilled}
-use Rattle.unit_compile.proofs.making.built_modules.Goals as goal
+use Rattle.unit_compile.proofs.Loops.{plain, StandsAt, has_at, made_next, made_whole}
+use Rattle.unit_compile.proofs.Loops.{unrefused_next, unrefused_whole, unmade_here}
+use Rattle.unit_compile.specs.inner.Unmade.{AreUnmade}
+use Rattle.unit_compile.proofs.making.directive_modules.Goals as goal
 
 pub put_module-requires-clause-words : goal.put_module-requires-clause-words
 put_module-requires-clause-words c =
@@ -21,12 +21,6 @@ put_module-requires-clause-expressions c =
     has_at (λ (d : Directive). IsWellFormed (unit_of c.args.unit.now) (directive_of d)) c.args.directives.now
     c.loop-place.place c.index-directives-place.result
     (record { within = c.loop-place-test.true; read = c.index-directives-place.is }) c.requires.expressions
-
-pub put_module-requires-clause-built : goal.put_module-requires-clause-built
-put_module-requires-clause-built c =
-    has_at (λ (d : Directive). IsBuilt (directive_of d).formula) c.args.directives.now c.loop-place.place
-    c.index-directives-place.result (record { within = c.loop-place-test.true; read = c.index-directives-place.is })
-    c.requires.built
 
 pub loop-place-init : goal.loop-place-init
 loop-place-init c = (
@@ -41,8 +35,8 @@ loop-place-preserved c =
     record { within = c.loop-place-test.true; read = c.index-directives-place.is } in (
       made_next (unit_of c.args.unit.now) c.args.directives.now c.loop-place.place c.index-directives-place.result
           (map module_of c.loop-place.modules.items) _ at c.loop-place.invariant.0 c.in_ok-put_module.ensures.made,
-      fit_next c.args.directives.now c.loop-place.place c.index-directives-place.result at
-          c.in_ok-put_module.ensures.within c.loop-place.invariant.1,
+      unrefused_next c.args.directives.now c.loop-place.place c.index-directives-place.result at
+          c.in_ok-put_module.ensures.unrefused c.loop-place.invariant.1,
     )
 
 pub returns-clause-made : goal.returns-clause-made
@@ -51,15 +45,15 @@ returns-clause-made c =
     made_whole (unit_of c.args.unit.now) c.args.directives.now c.loop-place.place
     (map module_of c.loop-place.modules.items) all c.loop-place.invariant.0
 
-pub returns-clause-within : goal.returns-clause-within
-returns-clause-within c =
+pub returns-clause-unrefused : goal.returns-clause-unrefused
+returns-clause-unrefused c =
     let all : c.loop-place.place ≡ length c.args.directives.now = omega arith in
-    fit_whole c.args.directives.now c.loop-place.place all c.loop-place.invariant.1
+    unrefused_whole c.args.directives.now c.loop-place.place all c.loop-place.invariant.1
 
 pub returns-in_err-put_module-clause-refused : goal.returns-in_err-put_module-clause-refused
 returns-in_err-put_module-clause-refused c =
-    let why : IsUnfilled (map directive_of c.args.directives.now) c.in_err-put_module.field-0.0 =
-    unfilled c.args.directives.now c.loop-place.place c.index-directives-place.result c.in_err-put_module.field-0.0
+    let why : AreUnmade (map directive_of c.args.directives.now) c.in_err-put_module.field-0.0 =
+    unmade_here c.args.directives.now c.loop-place.place c.index-directives-place.result c.in_err-put_module.field-0.0
     (record { within = c.loop-place-test.true; read = c.index-directives-place.is })
     c.in_err-put_module.ensures.refused c.loop-place.invariant.1 in
     first_of (search (rules, why), grind (arith, why))
