@@ -1,7 +1,6 @@
 -- A machine that is part of another under a renaming of its states, up to the order and number of equal edges.
-use Rattle.std.proofs.Common.{◌≡◌, ◌↔◌, ◌∙◌, refl, sym, ap, subst, Bool, IsTrue, List, [], ◌∷◌}
-use Rattle.auto_core.specs.declared.labels.Literal.{Literal}
-use Rattle.auto_core.specs.Machine.{Machine, Letter, Passes, AcceptsFrom, Accepts}
+use Rattle.std.proofs.Common.{◌≡◌, ◌↔◌, ◌∙◌, refl, sym, ap, subst, IsTrue, List, [], ◌∷◌}
+use Rattle.auto_core.specs.Machine.{Machine, Letter, AcceptsFrom, Accepts}
 use Rattle.auto_core.specs.Graph.{Reached, at_start, by_edge}
 use Rattle.sequence_tables.proofs.Members.{Among, Contains-from_Among, Among-from_Contains}
 use Rattle.sequence_tables.proofs.Maps.{Maps}

@@ -1,8 +1,8 @@
 -- What is made of parts of place graphs is part of the place graph of what is made of their sequences.
-use Rattle.std.proofs.Common.{◌≡◌, ◌∙◌, refl, sym, ap, subst, Bool, true, false, ◌&&◌, ◌||◌, IsTrue, List, [], ◌∷◌}
+use Rattle.std.proofs.Common.{◌≡◌, refl, sym, ap, subst, ◌&&◌, ◌||◌, IsTrue, List}
 use Rattle.std.proofs.Common.{inl, inr, ◌⊎◌}
 use Rattle.psl_model.specs.Expr.{Expr}
-use Rattle.psl_meaning.specs.Sequence.{CoreSere, bool, empty, concat, fuse, or, both, star}
+use Rattle.psl_meaning.specs.Sequence.{CoreSere, bool, concat, fuse, or, both, star}
 use Rattle.sequence_cores.specs.PlaceGraph.{Place, first, last, left, right, pair, inner, start_of, accepts, Step}
 use Rattle.auto_core.specs.declared.labels.Literal.{Literal}
 use Rattle.auto_core.specs.LiteralSets.{put_all}
@@ -25,7 +25,7 @@ use Rattle.sere_automata.specs.Repeat.{repeat_machine}
 use Rattle.sere_automata.specs.States.{OfChoice, OfRound}
 use Rattle.sequence_tables.specs.PlaceTable.{joined_label}
 use Rattle.sequence_tables.proofs.Into.{Into, first_steps, first_accepts}
-use Rattle.sequence_tables.proofs.Leads.{Leads, Joined, leads_same, leads_append, leads_if, leads_filter, leads_renamed}
+use Rattle.sequence_tables.proofs.Leads.{Leads, leads_same, leads_append, leads_if, leads_filter, leads_renamed}
 use Rattle.sequence_tables.proofs.Leads.{leads_products}
 
 -- ---- the renamed states

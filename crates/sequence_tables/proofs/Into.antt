@@ -1,5 +1,5 @@
 -- A machine that is part of a graph under a renaming of its states, up to the order and number of equal edges.
-use Rattle.std.proofs.Common.{◌≡◌, ◌∙◌, refl, sym, ap, subst, Bool, List}
+use Rattle.std.proofs.Common.{◌≡◌, ◌∙◌, sym, ap, subst, Bool, List}
 use Rattle.auto_core.specs.declared.labels.Literal.{Literal}
 use Rattle.auto_core.specs.Graph.{Reached, at_start, by_edge}
 use Rattle.auto_core.specs.Machine.{Machine}

@@ -1,13 +1,10 @@
 -- Lists of edges that correspond under a renaming of their targets.
-use Rattle.std.specs.Prelude.{flat_map}
-use Rattle.std.proofs.Common.{◌≡◌, ◌∙◌, refl, sym, ap, subst, Bool, true, false, cond, List, [], ◌++◌, map, filter, inl}
+use Rattle.std.proofs.Common.{◌≡◌, ◌∙◌, sym, ap, subst, Bool, true, false, cond, List, [], ◌++◌, map, inl}
 use Rattle.std.proofs.Common.{inr}
 use Rattle.auto_core.specs.declared.labels.Literal.{Literal}
-use Rattle.auto_core.specs.LiteralSets.{put_all}
-use Rattle.sequence_tables.proofs.Members.{Among, Among-append, Among-left, Among-right, Among-filter}
-use Rattle.sequence_tables.proofs.Members.{Among-filter_back}
+use Rattle.sequence_tables.proofs.Members.{Among, Among-append, Among-left, Among-right}
 use Rattle.sequence_tables.proofs.Members.{Among-map, map-Among}
-use Rattle.auto_core.specs.Edges.{renamed, products, joined_edge}
+use Rattle.auto_core.specs.Edges.{renamed}
 
 -- the targets of the first list are its own states, and the second list has the renamed edges and no others
 pub record Maps {S T : Type 0} (own : S → Type 0) (f : S → T) (xs : List (List Literal × S)) (ys : List (List Literal

@@ -1,5 +1,5 @@
 -- From the list of a table's places to the renaming of its states, and back.
-use Rattle.std.proofs.Common.{◌≡◌, ◌↔◌, ◌∙◌, refl, sym, ap, subst, ℕ, zero, suc, ◌<◌, Bool, false, eqb, List, [], ◌∷◌}
+use Rattle.std.proofs.Common.{◌≡◌, ◌∙◌, refl, sym, ap, subst, ℕ, zero, suc, ◌<◌, Bool, false, eqb, List, [], ◌∷◌}
 use Rattle.std.proofs.Common.{map, filter, length, get_or, slice_get, Some, inl, inr, arith, All, Contains}
 use Rattle.std.specs.Option.{option_map}
 use Rattle.std.proofs.lemmas.Bool.Decides.{Decides-eqb}

@@ -1,11 +1,11 @@
 -- Which edge stands at a place of a list that is made of others.
-use Rattle.std.proofs.Common.{◌≡◌, ◌↔◌, ◌∙◌, refl, sym, ap, subst, ℕ, zero, suc, ◌+◌, ◌*◌, ◌/◌, ◌%◌, ◌<◌, Some, List}
+use Rattle.std.proofs.Common.{◌≡◌, ◌↔◌, ◌∙◌, sym, ap, subst, ℕ, zero, suc, ◌+◌, ◌*◌, ◌/◌, ◌%◌, ◌<◌, Some, List}
 use Rattle.std.proofs.Common.{[]}
 use Rattle.std.proofs.Common.{◌∷◌, ◌++◌, map, length, slice_get, arith}
 use Rattle.std.specs.Option.{option_map}
 use Rattle.std.proofs.lemmas.Option.{slice_get-map}
 use Rattle.auto_core.specs.declared.labels.Literal.{Literal}
-use Rattle.auto_core.specs.Edges.{renamed, LeadsTo, HasLabelAt, PutsEdge, PassesEdge}
+use Rattle.auto_core.specs.Edges.{renamed, LeadsTo, PutsEdge, PassesEdge}
 use Rattle.auto_core.specs.LiteralSets.{IsLabel, put_all}
 use Rattle.auto_core.specs.Machine.{Letter, Passes}
 

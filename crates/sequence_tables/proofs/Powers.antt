@@ -1,5 +1,5 @@
 -- A number of copies of a part of a place graph is part of that of the sequence's copies.
-use Rattle.std.proofs.Common.{◌≡◌, ◌↔◌, refl, sym, ap, subst, ℕ, zero, suc, ◌-◌, ◌<◌, List, map, inl, inr, arith}
+use Rattle.std.proofs.Common.{◌↔◌, sym, ap, subst, ℕ, zero, suc, ◌-◌, ◌<◌, List, map, inl, inr, arith}
 use Rattle.psl_model.specs.Expr.{Expr}
 use Rattle.psl_meaning.specs.Sequence.{CoreSere}
 use Rattle.psl_meaning.specs.SequenceSugar.{copies}

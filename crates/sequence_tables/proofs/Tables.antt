@@ -2,13 +2,12 @@
 use Rattle.std.proofs.Common.{◌≡◌, ◌↔◌, ◌≢◌, ◌∙◌, refl, sym, ap, subst, ℕ, zero, suc, ◌<◌, Bool, true, false, cond}
 use Rattle.std.proofs.Common.{List, [], ◌∷◌, ◌++◌, map, length, inl, inr, ◌⊎◌, arith, append_assoc, All}
 use Rattle.psl_model.specs.Expr.{Expr}
-use Rattle.psl_meaning.specs.Sequence.{CoreSere, bool, empty, concat, fuse, or, both, star, Holds, Copies, Tight}
+use Rattle.psl_meaning.specs.Sequence.{CoreSere, bool, empty, concat, fuse, or, both, star, Holds, Tight}
 use Rattle.psl_meaning.specs.SequenceSugar.{copies}
 use Rattle.psl_meaning.specs.Word as word
-use Rattle.sequence_cores.specs.PlaceGraph.{Place, first, start_of, accepts, Step}
+use Rattle.sequence_cores.specs.PlaceGraph.{Place, first, start_of, Step}
 use Rattle.symbol_alphabet.specs.Symbols.{label_in, seen_by, HasSymbol, needs_none, same, stripped, with_symbol}
 use Rattle.auto_core.specs.declared.labels.Literal.{Literal}
-use Rattle.auto_core.specs.declared.tables.Edge.{Edge}
 use Rattle.auto_core.specs.Graph.{Graph, graph_machine, IsReachedPart}
 use Rattle.auto_core.specs.Machine.{Machine, Letter, Passes, Accepts}
 use Rattle.auto_core.specs.Splits.{IsConcatenation, IsFusion, IsRepetition}
@@ -21,17 +20,17 @@ use Rattle.sere_automata.specs.OneOf.{one_of_machine}
 use Rattle.sere_automata.specs.Repeat.{repeat_machine}
 use Rattle.sere_automata.specs.States.{OfChoice, OfRound}
 use Rattle.std.specs.List.{list_any}
-use Rattle.sequence_tables.specs.PlaceTable.{ReachedBy, at_start, by_step, IsStepIn, IsPartOf, joined_label}
+use Rattle.sequence_tables.specs.PlaceTable.{ReachedBy, at_start, by_step, joined_label}
 use Rattle.sequence_tables.specs.PlaceTable.{IsPlaceTable}
 use Rattle.sequence_tables.specs.Words.{AcceptsTight}
-use Rattle.sequence_tables.specs.inner.Built.{IsTableOf, Stands, Makes, MakesOfTwo}
+use Rattle.sequence_tables.specs.inner.Built.{IsTableOf, HasSymbols, Stands, Makes, MakesOfTwo}
 use Rattle.sequence_tables.specs.inner.Copies.{chain_machine}
 use Rattle.sequence_tables.proofs.Forms.{InPlaces, sides, choices, pairs, rounds, ends, leaf_into, star_into}
 use Rattle.sequence_tables.proofs.Forms.{concat_into, fuse_into, or_into, both_into}
-use Rattle.sequence_tables.proofs.Members.{Among, append-nil, All-among, Contains-from_Among, Among-from_Contains}
+use Rattle.sequence_tables.proofs.Members.{Among, append-nil, Contains-from_Among, Among-from_Contains}
 use Rattle.sequence_tables.proofs.Parts.{place_at, into_of_part, part_through}
 use Rattle.sequence_tables.proofs.Powers.{OwnCopy, unrolled, copies_into, one_copy_words, more_copies_words}
-use Rattle.sequence_tables.proofs.Words.{Seen, Reads, all_seen, concat_reads, fusion_reads, repetition_reads}
+use Rattle.sequence_tables.proofs.Words.{Reads, all_seen, concat_reads, fusion_reads, repetition_reads}
 use Rattle.sequence_tables.proofs.Words.{letter_reads, nothing_reads, seen_all}
 use Rattle.sequence_tables.proofs.Within.{EachBelow, BelowIn, to_each, from_each, below-part, below_label, below-leaf}
 use Rattle.sequence_tables.proofs.Within.{below-concat, below-fuse, below-one_of, below-both, below-repeat, below-chain}
@@ -138,6 +137,7 @@ module _ (x y g h t : Graph) (e : x ≡ g) (k : y ≡ h) where
       IsTableOf (OfSides (Own x) (Own y)) (concat_machine (graph_machine x) (graph_machine y)) t →
       MakesOfTwo (λ r s. concat r s) g h t
   concat_stands law made symbols r s a b = record {
+    booleans = (a.booleans, b.booleans);
     numbered = made_below (length symbols) (concat_machine (graph_machine x) (graph_machine y)) made.0.0 t made.0.2
         (below-concat (length symbols) (graph_machine x) (graph_machine y)
         (from_same (length symbols) g x e a.numbered) (from_same (length symbols) h y k b.numbered));
@@ -158,6 +158,7 @@ module _ (x y g h t : Graph) (e : x ≡ g) (k : y ≡ h) where
       IsTableOf (OfSides (Own x) (Own y)) (fuse_machine (graph_machine x) (graph_machine y)) t →
       MakesOfTwo (λ r s. fuse r s) g h t
   fuse_stands law made symbols r s a b = record {
+    booleans = (a.booleans, b.booleans);
     numbered = made_below (length symbols) (fuse_machine (graph_machine x) (graph_machine y)) made.0.0 t made.0.2
         (below-fuse (length symbols) (graph_machine x) (graph_machine y)
         (from_same (length symbols) g x e a.numbered) (from_same (length symbols) h y k b.numbered));
@@ -178,6 +179,7 @@ module _ (x y g h t : Graph) (e : x ≡ g) (k : y ≡ h) where
       IsTableOf (OfChoice (Own x) (Own y)) (one_of_machine (graph_machine x) (graph_machine y)) t →
       MakesOfTwo (λ r s. or r s) g h t
   or_stands law made symbols r s a b = record {
+    booleans = (a.booleans, b.booleans);
     numbered = made_below (length symbols) (one_of_machine (graph_machine x) (graph_machine y)) made.0.0 t made.0.2
         (below-one_of (length symbols) (graph_machine x) (graph_machine y)
         (from_same (length symbols) g x e a.numbered) (from_same (length symbols) h y k b.numbered));
@@ -199,6 +201,7 @@ module _ (x y g h t : Graph) (e : x ≡ g) (k : y ≡ h) where
       IsTableOf (OfPair (Own x) (Own y)) (both_machine (graph_machine x) (graph_machine y)) t →
       MakesOfTwo (λ r s. both r s) g h t
   both_stands law made symbols r s a b = record {
+    booleans = (a.booleans, b.booleans);
     numbered = made_below (length symbols) (both_machine (graph_machine x) (graph_machine y)) made.0.0 t made.0.2
         (below-both (length symbols) (graph_machine x) (graph_machine y)
         (from_same (length symbols) g x e a.numbered) (from_same (length symbols) h y k b.numbered));
@@ -217,6 +220,7 @@ module _ (x g t : Graph) (e : x ≡ g) where
       ((w : List Letter) → Accepts (repeat_machine (graph_machine x)) w ↔ IsRepetition (Accepts (graph_machine g)) w) →
       IsTableOf (OfRound (Own x)) (repeat_machine (graph_machine x)) t → Makes (λ r. star r) g t
   star_stands law made symbols r a = record {
+    booleans = a.booleans;
     numbered = made_below (length symbols) (repeat_machine (graph_machine x)) made.0.0 t made.0.2
         (below-repeat (length symbols) (graph_machine x) (from_same (length symbols) g x e a.numbered));
     graph = star_graph (label_in symbols) r x t (subst (IsPlaceTable (label_in symbols) r) (sym e) a.graph) made;
@@ -228,6 +232,12 @@ module _ (x g t : Graph) (e : x ≡ g) where
   }
 
 -- ---- copies
+
+copies_have_symbols : (symbols : List Expr) (r : CoreSere) (k : ℕ) → HasSymbols symbols r →
+    HasSymbols symbols (copies k r)
+copies_have_symbols symbols r zero h = tt
+copies_have_symbols symbols r (suc zero) h = h
+copies_have_symbols symbols r (suc (suc k)) h = (copies_have_symbols symbols r (suc k) h, h)
 
 module _ (g : Graph) (law : (n : Machine (ℕ × ℕ)) (m : Machine ℕ) (w : List Letter) →
     Accepts (concat_machine n m) w ↔ IsConcatenation (Accepts n) (Accepts m) w) where
@@ -250,6 +260,7 @@ module _ (g : Graph) (law : (n : Machine (ℕ × ℕ)) (m : Machine ℕ) (w : Li
       IsTableOf (OwnCopy (Own g) k) (chain_machine (graph_machine g) k) t → Makes (λ r. copies k r) g t
   copies_stand t zero some made symbols r a = absurd (omega arith)
   copies_stand t (suc k) some made symbols r a = record {
+    booleans = copies_have_symbols symbols r (suc k) a.booleans;
     numbered = made_below (length symbols) (chain_machine (graph_machine g) (suc k)) made.0.0 t made.0.2
         (below-chain (length symbols) (graph_machine g) (from_each (length symbols) g a.numbered) (suc k));
     graph = copies_graph (label_in symbols) r g t k a.graph made;
@@ -264,6 +275,7 @@ module _ (g : Graph) (law : (n : Machine (ℕ × ℕ)) (m : Machine ℕ) (w : Li
 pub empty_stands : (t : Graph) → t ≡ record { accepting = true ∷ []; edges = [] } →
     ((w : List Letter) → Accepts (graph_machine t) w ↔ (w ≡ [])) → (symbols : List Expr) → Stands symbols empty t
 empty_stands t e law symbols = record {
+  booleans = tt;
   numbered = subst (EachBelow (length symbols)) (sym e) (λ i d lt. absurd (omega (arith, lt)));
   graph = subst (IsPlaceTable (label_in symbols) empty) (sym e) (empty_graph (label_in symbols));
   words = λ widths w all.
@@ -292,6 +304,7 @@ module _ (e : Expr) (symbols : List Expr) (has : HasSymbol symbols e)
       let below = below_label (length (symbols ++ later)) (label_in (symbols ++ later) e)
       (within (symbols ++ later) e (numbered symbols later e has)) in
       record {
+        booleans = numbered symbols later e has;
         numbered = made_below (length (symbols ++ later)) (leaf_machine x) made.0.0 t made.0.2
             (below-leaf (length (symbols ++ later)) x
             (λ l among. below l (subst (λ (z : List Literal). Among z l) (same ∙ now) among)));

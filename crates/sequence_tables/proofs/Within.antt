@@ -1,28 +1,24 @@
 -- Labels that speak of the first symbols alone, and what is made of them.
-use Rattle.std.proofs.Common.{◌≡◌, ◌↔◌, ap, subst, ℕ, zero, suc, ◌<◌, Bool, true, false, cond, List, [], ◌∷◌, ◌++◌, map}
-use Rattle.std.proofs.Common.{filter, inl, inr, ◌⊎◌, All, eqb, length, refl}
+use Rattle.std.proofs.Common.{◌≡◌, ap, subst, ℕ, zero, suc, ◌<◌, Bool, true, false, cond, List, [], ◌∷◌, ◌++◌, map}
+use Rattle.std.proofs.Common.{filter, inl, inr, ◌⊎◌, All, eqb, refl}
 use Rattle.auto_core.specs.declared.labels.Literal.{Literal}
 use Rattle.auto_core.specs.declared.tables.Edge.{Edge}
-use Rattle.auto_core.specs.Edges.{renamed, products, joined_edge}
+use Rattle.auto_core.specs.Edges.{renamed, products}
 use Rattle.auto_core.specs.Graph.{Graph, graph_machine, IsReachedPart}
 use Rattle.auto_core.specs.LiteralSets.{precedes, put_literal, put_all}
 use Rattle.auto_core.specs.Machine.{Machine}
-use Rattle.automata_product.specs.declared.side.Side.{Side}
 use Rattle.automata_product.specs.declared.side.Side.TheVariants.{Left, Right}
 use Rattle.automata_product.specs.Both.{both_machine}
 use Rattle.automata_product.specs.Fuse.{fuse_machine}
-use Rattle.sere_automata.specs.declared.states.Choice.{Choice}
 use Rattle.sere_automata.specs.declared.states.Choice.TheVariants as choice
 use Rattle.sere_automata.specs.declared.states.LeafState.{LeafState}
 use Rattle.sere_automata.specs.declared.states.LeafState.TheVariants as leaf
-use Rattle.sere_automata.specs.declared.states.Round.{Round}
 use Rattle.sere_automata.specs.declared.states.Round.TheVariants as round
 use Rattle.sere_automata.specs.Concat.{concat_machine}
 use Rattle.sere_automata.specs.Leaf.{leaf_machine}
 use Rattle.sere_automata.specs.OneOf.{one_of_machine}
 use Rattle.sere_automata.specs.Repeat.{repeat_machine}
-use Rattle.sequence_tables.specs.inner.Copies.{later, firsts, chain_machine}
-use Rattle.sequence_tables.proofs.Chains.{if-among}
+use Rattle.sequence_tables.specs.inner.Copies.{firsts, chain_machine}
 use Rattle.sequence_tables.proofs.Leads.{products_back}
 use Rattle.sequence_tables.proofs.Maps.{renamed_back}
 use Rattle.sequence_tables.proofs.Members.{Among, Among-append, Among-filter, Among-from_Contains, Contains-from_Among}

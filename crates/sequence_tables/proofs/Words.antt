@@ -1,6 +1,6 @@
 -- What a list of letters that is seen through the symbols is made of is what the list is made of.
 use Rattle.std.proofs.Common.{◌≡◌, ◌↔◌, ◌≢◌, ◌∙◌, refl, sym, ap, subst, ℕ, zero, suc, List, [], ◌∷◌, ◌++◌, map, get_or}
-use Rattle.std.proofs.Common.{inl, inr, ◌⊎◌, All}
+use Rattle.std.proofs.Common.{inl, inr, All}
 use Rattle.std.specs.List.{AllByRecursion}
 use Rattle.psl_model.specs.Expr.{Expr}
 use Rattle.psl_meaning.specs.Sequence.{Holds, Copies}

@@ -1,3 +1,5 @@
 pub mod PlaceTable
+pub mod Renamed
+pub mod Steps
 pub mod Words
 pub mod inner

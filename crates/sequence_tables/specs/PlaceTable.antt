@@ -1,6 +1,6 @@
 -- When a table is the place graph of a core sequence: up to the numbers of its states, the part that the start place
 -- reaches. `label` gives the label of a Boolean.
-use Rattle.std.specs.Prelude.{◌≡◌, ◌≢◌, ◌↔◌, ℕ, Bool, List, Some, map, slice_get, AllPairs, Contains}
+use Rattle.std.specs.Prelude.{◌≡◌, ◌≢◌, ◌↔◌, Bool, List, Some, map, slice_get, AllPairs, Contains}
 use Rattle.psl_model.specs.Expr.{Expr}
 use Rattle.psl_meaning.specs.Sequence.{CoreSere}
 use Rattle.sequence_cores.specs.PlaceGraph.{Place, start_of, accepts, Step}
@@ -10,10 +10,9 @@ use Rattle.auto_core.specs.Graph.{Graph}
 use Rattle.auto_core.specs.LiteralSets.{put_all}
 
 -- some path of steps leads from the start to the place
-pub data ReachedBy {P : Type 0} (start : P) (step : P → List Literal → P → Type 0) : P → Type 0 where
+pub data ReachedBy {P L : Type 0} (start : P) (step : P → L → P → Type 0) : P → Type 0 where
   at_start : ReachedBy start step start
-  by_step : {p : P} (label : List Literal) (next : P) → ReachedBy start step p → step p label next →
-      ReachedBy start step next
+  by_step : {p : P} (label : L) (next : P) → ReachedBy start step p → step p label next → ReachedBy start step next
 
 -- the edge is a step, where each number calls the place that the list has there
 abbrev pub IsStepIn : {P : Type 0} → (step : P → List Literal → P → Type 0) → List P → Edge → Type 0

@@ -1,21 +1,24 @@
 //! The table of a core sequence, from those of its parts.
 
-ghost use Rattle.std.specs.Prelude.{◌≡◌, ◌↔◌, ◌<◌, ◌++◌, ℕ, List, length, IsTrue, IfOk, All};
+ghost use Rattle.std.specs.Prelude.{◌≡◌, ◌↔◌, ◌<◌, ◌≤◌, ◌++◌, ℕ, List, length, IsTrue, IfOk, All};
 ghost use Rattle.psl_model.specs.Expr as tree;
 ghost use Rattle.psl_model.specs.View.{expr_of};
 ghost use Rattle.psl_meaning.specs.Sequence as psl;
 ghost use Rattle.psl_meaning.specs.SequenceSugar.{copies};
 ghost use Rattle.psl_rewrite.specs.Meaning.{meant_core};
 ghost use Rattle.psl_rewrite.specs.View.{core_of};
+ghost use Rattle.sequence_cores.specs.PlaceGraph.{places_in};
 ghost use Rattle.symbol_alphabet.specs.Symbols.{label_in};
 ghost use Rattle.auto_core.specs.Edges.{HasAtMost};
 ghost use Rattle.auto_core.specs.Graph.{graph_machine};
 ghost use Rattle.auto_core.specs.Machine.{Letter, Accepts};
 ghost use Rattle.sequence_tables.specs.PlaceTable.{IsPlaceTable};
+ghost use Rattle.sequence_tables.specs.Steps.{HasSteps};
 ghost use Rattle.sequence_tables.specs.Words.{AcceptsTight};
 ghost use Rattle.sequence_tables.specs.inner.Built.{IsTableOf, Stands, Makes, MakesOfTwo};
 
 use crate::copies::Copies;
+use auto_core::laws::a_union_has_the_literals_of_both;
 use auto_core::{Auto, IndexedTable, Table, materialise};
 use automata_product::{Both, Fuse};
 use psl_model::Expr;
@@ -199,6 +202,11 @@ pub fn build(alloc: Global, core: &CoreSere, symbols: &mut Symbols) -> Result<Ta
         AcceptsTight (symbols.new ++ later) (meant_core (core_of core.now)) table) }
     ensures graph { IfOk result (λ table. (later : List tree.Expr) →
         IsPlaceTable (label_in (symbols.new ++ later)) (meant_core (core_of core.now)) table) }
+    ensures states { IfOk result (λ table.
+        length table.accepting ≤ length (places_in (meant_core (core_of core.now)))) }
+    ensures steps { IfOk result (λ table. HasSteps (meant_core (core_of core.now)) (length table.edges)) }
 {
+    a_union_has_the_literals_of_both();
+    a_label_is_one_literal();
     tabled(alloc, core, symbols)
 }

@@ -1,7 +1,7 @@
 use Rattle.std.proofs.Common.{ap}
 use Rattle.std.proofs.lemmas.Result.{IfOk-weaker}
 use Rattle.psl_model.specs.View.{expr_of}
-use Rattle.sequence_tables.proofs.Tables.{leaf_stands, goes_on_seen, goes_on_same}
+use Rattle.sequence_tables.proofs.Tables.{leaf_stands}
 use Rattle.sequence_tables.proofs.building.leaf.Goals as goal
 
 pub returns-clause-stands : goal.returns-clause-stands

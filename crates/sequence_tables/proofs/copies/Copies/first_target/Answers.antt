@@ -1,4 +1,4 @@
-use Rattle.std.proofs.Common.{◌^◌, arith}
+use Rattle.std.proofs.Common.{arith}
 use Rattle.sequence_tables.proofs.ChainPlaces.{following_there, following_number, following_leads}
 use Rattle.sequence_tables.proofs.copies.Copies.first_target.Goals as goal
 

@@ -1,4 +1,4 @@
-use Rattle.std.proofs.Common.{◌^◌, arith, sym}
+use Rattle.std.proofs.Common.{arith, sym}
 use Rattle.sequence_tables.proofs.ChainPlaces.{count_ends}
 use Rattle.sequence_tables.proofs.copies.CopiesAuto.edge_count.Goals as goal
 
