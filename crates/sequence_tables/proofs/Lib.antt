@@ -9,6 +9,7 @@ pub mod LabelSets
 pub mod Leads
 pub mod Maps
 pub mod Members
+pub mod Origins
 pub mod Parts
 pub mod Places
 pub mod Powers

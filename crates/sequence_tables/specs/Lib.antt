@@ -1,3 +1,4 @@
+pub mod Booleans
 pub mod PlaceTable
 pub mod Renamed
 pub mod Steps

@@ -1,6 +1,7 @@
 //! The table of a core sequence, from those of its parts.
 
-ghost use Rattle.std.specs.Prelude.{◌≡◌, ◌↔◌, ◌<◌, ◌≤◌, ◌++◌, ℕ, List, length, IsTrue, IfOk, All};
+ghost use Rattle.std.specs.Prelude.{◌≡◌, ◌↔◌, ◌<◌, ◌≤◌, ◌++◌, ◌⊎◌, ℕ, List, length, IsTrue, IfOk, All};
+ghost use Rattle.std.specs.Prelude.{Contains};
 ghost use Rattle.psl_model.specs.Expr as tree;
 ghost use Rattle.psl_model.specs.View.{expr_of};
 ghost use Rattle.psl_meaning.specs.Sequence as psl;
@@ -8,10 +9,11 @@ ghost use Rattle.psl_meaning.specs.SequenceSugar.{copies};
 ghost use Rattle.psl_rewrite.specs.Meaning.{meant_core};
 ghost use Rattle.psl_rewrite.specs.View.{core_of};
 ghost use Rattle.sequence_cores.specs.PlaceGraph.{places_in};
-ghost use Rattle.symbol_alphabet.specs.Symbols.{label_in};
+ghost use Rattle.symbol_alphabet.specs.Symbols.{label_in, stripped};
 ghost use Rattle.auto_core.specs.Edges.{HasAtMost};
 ghost use Rattle.auto_core.specs.Graph.{graph_machine};
 ghost use Rattle.auto_core.specs.Machine.{Letter, Accepts};
+ghost use Rattle.sequence_tables.specs.Booleans.{HasBoolean};
 ghost use Rattle.sequence_tables.specs.PlaceTable.{IsPlaceTable};
 ghost use Rattle.sequence_tables.specs.Steps.{HasSteps};
 ghost use Rattle.sequence_tables.specs.Words.{AcceptsTight};
@@ -58,6 +60,8 @@ fn are_small(left: &Table, right: &Table) -> bool
 // The table of a Boolean, which is numbered where it wasn't seen before.
 fn leaf(alloc: Global, expr: &Expr, symbols: &mut Symbols) -> Result<Table, AllocError>
     ensures grows { (more : List tree.Expr) × (symbols.new ≡ symbols.old ++ more) }
+    ensures origins { (e : tree.Expr) →
+        Contains symbols.new e → Contains symbols.old e ⊎ (stripped (expr_of expr.now) ≡ e) }
     ensures stands { IfOk result (λ table. (later : List tree.Expr) →
         Stands (symbols.new ++ later) (psl.bool (expr_of expr.now)) table) }
 {
@@ -151,6 +155,8 @@ fn powered(alloc: Global, body: &Table, count: u32) -> Result<Table, AllocError>
 // The table of a core sequence, whatever symbols come later.
 fn tabled(alloc: Global, core: &CoreSere, symbols: &mut Symbols) -> Result<Table, AllocError>
     ensures grows { (more : List tree.Expr) × (symbols.new ≡ symbols.old ++ more) }
+    ensures origins { (e : tree.Expr) →
+        Contains symbols.new e → Contains symbols.old e ⊎ HasBoolean (core_of core.now) e }
     ensures stands { IfOk result (λ table. (later : List tree.Expr) →
         Stands (symbols.new ++ later) (meant_core (core_of core.now)) table) }
 {
@@ -196,6 +202,8 @@ fn tabled(alloc: Global, core: &CoreSere, symbols: &mut Symbols) -> Result<Table
 /// Time and memory grow with the tables of the sequence's parts. A power is made in one go.
 pub fn build(alloc: Global, core: &CoreSere, symbols: &mut Symbols) -> Result<Table, AllocError>
     ensures symbols { (more : List tree.Expr) × (symbols.new ≡ symbols.old ++ more) }
+    ensures origins { (e : tree.Expr) →
+        Contains symbols.new e → Contains symbols.old e ⊎ HasBoolean (core_of core.now) e }
     ensures numbered { IfOk result (λ table.
         All (λ e. All (λ l. l.symbol < length symbols.new) e.label) table.edges) }
     ensures words { IfOk result (λ table. (later : List tree.Expr) →
