@@ -1,0 +1,4 @@
+pub mod Places
+pub mod Registers
+pub mod Steps
+pub mod inner

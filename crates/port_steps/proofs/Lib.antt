@@ -1,0 +1,4 @@
+pub mod Names
+pub mod Booleans
+pub mod Cores
+pub mod Places
