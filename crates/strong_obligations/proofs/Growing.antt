@@ -29,6 +29,14 @@ grows_set a b c r width initial next x number one there set = record {
     refl_some : IsSome (Some next)
     refl_some = refl
 
+-- with nodes alone after a growth
+pub grows_on : (a b c : Netlist) (more : ℕ) → Grows a b more → Extends a c → c.registers ≡ b.registers → Grows a c more
+grows_on a b c more grows x same = record {
+  kept = x;
+  count = omega (arith, grows.count, ap (λ rs. length rs) same);
+  nexts = λ r y past at. grows.nexts r y past (ap (λ rs. slice_get rs r) (sym same) ∙ at);
+}
+
 bits_from : (rs : List Register) → ((r : ℕ) (x : Register) → slice_get rs r ≡ Some x → x.width ≡ 1) → (from : ℕ) →
     fold ◌+◌ from (map (λ (x : Register). x.width) rs) ≡ from + length rs
 bits_from [] each from = omega arith

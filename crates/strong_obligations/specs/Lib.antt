@@ -1,4 +1,5 @@
 pub mod Bits
+pub mod Events
 pub mod Next
 pub mod Until
 pub mod inner

@@ -28,7 +28,12 @@ fn delayed(net: &mut Netlist, from: Net) -> Result<Net, AllocError>
 }
 
 // On where one of two nets is, of which the second counts only if it is wanted.
-fn or_if(net: &mut Netlist, others: Net, wanted: bool, more: Net) -> Result<Net, AllocError>
+pub(crate) fn or_if(
+    net: &mut Netlist,
+    others: Net,
+    wanted: bool,
+    more: Net,
+) -> Result<Net, AllocError>
     requires others { IsNet net.old others.0 }
     requires more { IsNet net.old more.0 }
     ensures kept { Extends net.old net.new }
