@@ -1,8 +1,7 @@
 //! Checks of formulas that signals start and clear.
 
-ghost use Rattle.std.specs.Prelude.{[], ◌∷◌, IfOk};
 ghost use Rattle.circuit_core.specs.Netlist.{IsNet};
-ghost use Rattle.property_circuits.specs.Conditions.{IsBuilt, HasGuards};
+ghost use Rattle.circuit_examples.specs.Examples.{IsExample};
 
 use crate::cycles::first_on;
 use crate::formulas::{
@@ -15,7 +14,7 @@ use std::alloc::{AllocError, Global};
 use std::test::Fail;
 
 // The texts of a, b, the starts and the clears, and the first cycle in which the check fails.
-type Row = ([&'static str; 4], Option<usize>);
+pub(crate) type Row = ([&'static str; 4], Option<usize>);
 
 const ALWAYS_AFTER_A: [Row; 4] = [
     // The start in cycle 1 sees cycle 4, not what stood before it.
@@ -62,21 +61,23 @@ const ALTERNATIVES: [Row; 3] = [
 
 // The check of a formula, started and cleared by signals.
 pub(crate) fn checked(alloc: Global, formula: &Subbase) -> Result<(Netlist, Check), AllocError>
-    requires built { IsBuilt formula.now }
-    requires guards { HasGuards (1 ∷ 1 ∷ 1 ∷ 1 ∷ []) formula.now }
+    requires { IsExample formula.now }
 {
     let widths = [1, 1, 1, 1].to_vec(alloc)?;
     let mut net = Netlist::new(alloc, widths)?;
     let start = net.guard(&signal(START))?;
     let clear = net.guard(&signal(CLEAR))?;
-    let check = check_at(&mut net, formula.get(), start, clear)?;
+    let check = check_at(alloc, &mut net, formula.get(), start, clear)?;
     Ok((net, check))
 }
 
 // Whether the check fails in these cycles first, and never pends.
-fn fails_as_told(alloc: Global, formula: &Subbase, rows: &[Row]) -> Result<bool, AllocError>
-    requires built { IsBuilt formula.now }
-    requires guards { HasGuards (1 ∷ 1 ∷ 1 ∷ 1 ∷ []) formula.now }
+pub(crate) fn fails_as_told(
+    alloc: Global,
+    formula: &Subbase,
+    rows: &[Row],
+) -> Result<bool, AllocError>
+    requires { IsExample formula.now }
 {
     let (net, check) = checked(alloc, formula)?;
     for (texts, fails) in rows {

@@ -1,7 +1,6 @@
 //! Checks of formulas whose body is started later, that signals start and clear.
 
-ghost use Rattle.std.specs.Prelude.{[], ◌∷◌};
-ghost use Rattle.property_circuits.specs.Conditions.{IsBuilt, HasGuards};
+ghost use Rattle.circuit_examples.specs.Examples.{IsExample};
 
 use crate::checks::checked;
 use crate::cycles::{first_on, is_stream};
@@ -51,8 +50,7 @@ const UNTIL_STRONG: [Row; 3] = [
 
 // Whether the check fails in these cycles first, and pends in these.
 fn pends_as_told(alloc: Global, formula: &Subbase, rows: &[Row]) -> Result<bool, AllocError>
-    requires built { IsBuilt formula.now }
-    requires guards { HasGuards (1 ∷ 1 ∷ 1 ∷ 1 ∷ []) formula.now }
+    requires { IsExample formula.now }
 {
     let (net, check) = checked(alloc, formula)?;
     for (texts, fails, pends) in rows {

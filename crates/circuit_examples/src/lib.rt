@@ -9,8 +9,12 @@ mod circuits;
 #[cfg(test)]
 mod cycles;
 #[cfg(test)]
+mod events;
+#[cfg(test)]
 mod formulas;
 #[cfg(test)]
 mod gates;
 #[cfg(test)]
 mod later;
+#[cfg(test)]
+mod suffixes;

@@ -1,19 +1,24 @@
 -- Checks behind gates: from the check of a body that a gate starts to the check of the whole.
-use Rattle.std.specs.Prelude.{ℕ, suc, ◌≡◌, ◌≢◌, ◌↔◌, ◌⊎◌, ◌<◌, ◌≤◌, ◌+◌, ◌-◌, Bool, IsTrue, List, [], All, length, take}
+use Rattle.std.specs.Prelude.{ℕ, suc, ◌≡◌, ◌≢◌, ◌↔◌, ◌⊎◌, ◌<◌, ◌≤◌, ◌+◌, ◌-◌, Bool, IsTrue, List, [], All, length, map, take}
 use Rattle.std.specs.Prelude.{Some, slice_get, drop}
 use Rattle.std.proofs.Common.{sym, subst, arith, inl, inr}
 use Rattle.std.proofs.lemmas.Bool.{cases_lt}
 use Rattle.std.proofs.lemmas.List.{drop_all}
 use Rattle.psl_model.specs.Expr.{Expr}
+use Rattle.psl_model.specs.Sere.{Sere}
 use Rattle.psl_model.specs.Value.{own_value}
-use Rattle.psl_meaning.specs.Word.{Valuation}
+use Rattle.psl_meaning.specs.Word.{Valuation, valuation}
+use Rattle.psl_meaning.specs.Sequence.{Tight}
+use Rattle.psl_meaning.specs.SequenceSugar.{core_of}
 use Rattle.psl_rewrite.specs.Base.{Base}
 use Rattle.circuit_core.specs.Netlist.{Netlist}
 use Rattle.circuit_core.specs.Run.{Stream, On, InEachRun}
-use Rattle.circuit_core.specs.Growth.{Extends, Grows}
+use Rattle.circuit_core.specs.Growth.{Extends}
 use Rattle.strong_obligations.specs.Next.{IsDue, IsAwaited}
 use Rattle.strong_obligations.specs.Until.{IsUnstopped}
-use Rattle.property_circuits.specs.Starts.{letters, IsCheck, IsCheckIn, IsGateOf, WaitsIfStrong, Weak, Full}
+use Rattle.sequence_matches.specs.Growth.{GrowsWithin}
+use Rattle.sequence_matches.specs.Matches.{letters, IsMatched}
+use Rattle.property_circuits.specs.Starts.{IsCheck, IsCheckIn, IsGateOf, WaitsIfStrong, Weak, Full}
 use Rattle.property_circuits.proofs.Letters.{letters_length, letters_take, letters_get, value_there}
 use Rattle.property_circuits.proofs.Streams.{Judgement, Never, IsOfSome, SomeOpen, gate_answers, strong_waits}
 use Rattle.property_circuits.proofs.Judging.{PlacesLaw, places_at, Already, AtLast, stable_already, stable_at_last}
@@ -212,6 +217,43 @@ module _ (widths : List ℕ) (trace : List Valuation) where
         (λ l. (l.0, all_unstopped e stop tells i m ordered within l.1)),
       )))
 
+  -- ---- a body behind each match of a sequence
+
+  abbrev Matches : Sere → Judgement
+  Matches r i k = Tight widths (core_of r) (map valuation (letters trace i k))
+
+  abbrev Ended : Sere → List Valuation → ℕ → Type 0
+  Ended r ls k = Tight widths (core_of r) (map valuation (take (suc k) ls))
+
+  -- a way to violate, by what is left behind each place at which a match ends
+  abbrev pub BehindMatches : (V : Base → List Valuation → Type 0) → Sere → (whole f : Base) → Type 0
+  BehindMatches V r whole f = (ls : List Valuation) →
+      (¬ V whole ls) ↔ ((k : ℕ) → k < length ls → Ended r ls k → ¬ V f (drop k ls))
+
+  behind : (V : Base → List Valuation → Type 0) (stable : (f : Base) (ls : List Valuation) → ¬ ¬ V f ls → V f ls)
+      (r : Sere) (whole f : Base) → BehindMatches V r whole f →
+      IsOfSome (length trace) (Matches r) Never (λ i m. V whole (letters trace i m)) (λ i m. V f (letters trace i m))
+  behind V stable r whole f law =
+      places_at V stable trace (Ended r) (λ ls. ⊥) (Matches r) Never whole f
+      (λ ls some. ((λ none. ((law ls).0 none, λ lack. lack)), (λ p. (law ls).1 p.0)))
+      (λ i k m from to within.
+      let same = letters_take trace i k m from to in (
+        (λ h. subst (λ (xs : List Valuation). Tight widths (core_of r) (map valuation xs)) (sym same) h),
+        (λ h. subst (λ (xs : List Valuation). Tight widths (core_of r) (map valuation xs)) same h),
+      ))
+      (λ i m ordered within. ((λ h. h), (λ h. h)))
+
+  pub suffix_check : (r : Sere) (whole f : Base) → BehindMatches (Already widths) r whole f →
+      BehindMatches (AtLast widths) r whole f → (start clear found fail pend : Stream) →
+      ((n : ℕ) → n < length trace → On found n ↔ IsMatched widths trace r start clear n) →
+      IsCheck widths trace f found clear fail pend → IsCheck widths trace whole start clear fail pend
+  suffix_check r whole f so_far at_last start clear found fail pend matched body =
+      gate_answers (length trace) (Matches r) Never (Weak widths trace whole) (Weak widths trace f)
+      (Full widths trace whole) (Full widths trace f) start found clear fail pend pend body matched
+      (λ n within. ((λ on. inl on), (λ x. elim x [ inl on ↦ on | inr none ↦ absurd none.3.1 ])))
+      (behind (Already widths) (stable_already widths) r whole f so_far)
+      (behind (AtLast widths) (stable_at_last widths) r whole f at_last)
+
 -- ---- inside a netlist that grows: the gate, the body, and what pends of both
 
 pub through_gate : (m1 m2 m3 : Netlist) (widths widths1 : List ℕ) (s : Bool) (whole whole1 f : Base)
@@ -236,9 +278,9 @@ through_gate m1 m2 m3 widths widths1 s whole whole1 f start clear go waits fail1
     subst (λ (k : ℕ). IsCheck widths inputs.trace whole1 (run start) (run clear) (run k) (run pend)) (sym fails) named
 
 pub grows_through : (m0 m1 m2 m3 : Netlist) (gate body whole : ℕ) →
-    ((a b c : Netlist) (m n : ℕ) → Grows a b m → Grows b c n → Grows a c (m + n)) → gate + body ≡ whole →
-    Grows m0 m1 gate → Grows m1 m2 body → Grows m2 m3 0 → Grows m0 m3 whole
+    ((a b c : Netlist) (m n : ℕ) → GrowsWithin a b m → GrowsWithin b c n → GrowsWithin a c (m + n)) → gate + body ≡ whole →
+    GrowsWithin m0 m1 gate → GrowsWithin m1 m2 body → GrowsWithin m2 m3 0 → GrowsWithin m0 m3 whole
 grows_through m0 m1 m2 m3 gate body whole twice counted x y z =
-    let P : ℕ → Type 0 = λ n. Grows m0 m3 n in
+    let P : ℕ → Type 0 = λ n. GrowsWithin m0 m3 n in
     let all : (gate + body) + 0 ≡ whole = omega arith in
     subst P all (twice m0 m2 m3 (gate + body) 0 (twice m0 m1 m2 gate body x y) z)

@@ -1,16 +1,17 @@
 -- Netlists that grow by registers that are set.
-use Rattle.std.specs.Prelude.{ℕ, zero, suc, ◌≡◌, ◌↔◌, ◌<◌, [], Option, Some, None, IsSome}
+use Rattle.std.specs.Prelude.{ℕ, zero, suc, ◌≡◌, ◌↔◌, ◌<◌, ◌≤◌, [], Option, Some, None, IsSome}
 use Rattle.std.specs.Prelude.{IfSome, IsSomeAnd, length}
 use Rattle.std.proofs.Common.{refl, sym, ap, ◌∙◌, subst, arith}
 use Rattle.std.proofs.lemmas.Option.{slice_get_within}
 use Rattle.circuit_core.specs.Netlist.{Netlist, IsNet, IsNetOf}
 use Rattle.circuit_core.specs.Run.{On, InEachRun, InEachCycle}
-use Rattle.circuit_core.specs.Growth.{Extends, IsSet, Grows, HaveNexts}
+use Rattle.circuit_core.specs.Growth.{Extends, IsSet, HaveNexts}
 use Rattle.circuit_core.specs.WellMade.{IsWellMade, IsFinished}
+use Rattle.sequence_matches.specs.Growth.{GrowsWithin}
 
 -- with the same registers
-pub grows_same : (a b : Netlist) → Extends a b → b.registers ≡ a.registers → Grows a b 0
-grows_same a b x same = record {
+pub within_same : (a b : Netlist) → Extends a b → b.registers ≡ a.registers → GrowsWithin a b 0
+within_same a b x same = record {
   kept = x;
   count = omega (arith, ap (λ rs. length rs) same);
   nexts = λ r y past at.
@@ -46,10 +47,10 @@ finished m out well nexts is = record {
 }
 
 -- a netlist that began without registers and was given its output
-pub done : (m0 m3 m4 : Netlist) (more out : ℕ) → m0.registers ≡ [] → Grows m0 m3 more →
-    m4 ≡ record m3 { output = Some out } → HaveNexts m4 0 × (length m4.registers ≡ more)
+pub done : (m0 m3 m4 : Netlist) (more out : ℕ) → m0.registers ≡ [] → GrowsWithin m0 m3 more →
+    m4 ≡ record m3 { output = Some out } → HaveNexts m4 0 × (length m4.registers ≤ more)
 done m0 m3 m4 more out empty grows is =
     let nothing : length m0.registers ≡ 0 = ap (λ rs. length rs) empty in
-    let P : Netlist → Type 0 = λ m. HaveNexts m 0 × (length m.registers ≡ more) in
+    let P : Netlist → Type 0 = λ m. HaveNexts m 0 × (length m.registers ≤ more) in
     subst P (sym is)
     ((λ r x past at. grows.nexts r x (omega (arith, nothing)) at), omega (arith, grows.count, nothing))

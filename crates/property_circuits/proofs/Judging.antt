@@ -17,8 +17,8 @@ use Rattle.psl_rewrite.specs.Meaning.{named}
 use Rattle.circuit_core.specs.Run.{Stream, On}
 use Rattle.circuit_core.specs.Starts.{Open, SomeStart}
 use Rattle.property_circuits.specs.Conditions.{IsBuilt}
-use Rattle.property_circuits.specs.Counts.{steps_of}
-use Rattle.property_circuits.specs.Starts.{letters, Weak, Full, IsCheck}
+use Rattle.sequence_matches.specs.Matches.{letters}
+use Rattle.property_circuits.specs.Starts.{Weak, Full, IsCheck}
 use Rattle.property_circuits.proofs.Letters.{value_there, letters_begin, letters_later, letters_length}
 use Rattle.property_circuits.proofs.Streams.{Judgement, Always, Never, IsEither, AreJoined, IsNarrowed, IsOfSome}
 use Rattle.property_circuits.proofs.Streams.{bool_answers, and_answers, narrowed_answers, always_answers}
@@ -176,26 +176,8 @@ built_obliges P (event s on low high f) built = absurd built
 built_obliges P (event_some s on low high e) built = absurd built
 built_obliges P (seq r s) built = absurd built
 built_obliges P (eventually r) built = absurd built
-built_obliges P (suffix r f) built = absurd built
+built_obliges P (suffix r f) built = built_obliges P f built
 built_obliges P (abort f on) built = absurd built
-
--- nor has it steps
-pub no_steps : (f : Base) → IsBuilt f → 0 ≡ steps_of f
-no_steps (bool e) built = refl
-no_steps (and f g) built = omega (arith, no_steps f built.0, no_steps g built.1)
-no_steps (or_bool e f) built = no_steps f built
-no_steps (implies e f) built = no_steps f built
-no_steps (always f) built = no_steps f built
-no_steps (next s k f) built = no_steps f built
-no_steps (next_all s low high f) built = no_steps f built.1
-no_steps (next_some s low high e) built = absurd built
-no_steps (until s f e) built = no_steps f built
-no_steps (event s on low high f) built = absurd built
-no_steps (event_some s on low high e) built = absurd built
-no_steps (seq r s) built = absurd built
-no_steps (eventually r) built = absurd built
-no_steps (suffix r f) built = absurd built
-no_steps (abort f on) built = absurd built
 
 pub is_zero : (x : ℕ) → ¬ (x ≢ 0) → x ≡ 0
 is_zero zero h = refl

@@ -7,7 +7,7 @@ use Rattle.std.proofs.lemmas.List.{get_or-take, get_or-drop}
 use Rattle.std.proofs.lemmas.Option.{slice_get_within, get_or_from_slice_get, slice_get_cases}
 use Rattle.std.proofs.Math.Seq.{drop-cons}
 use Rattle.psl_meaning.specs.Word.{Valuation}
-use Rattle.property_circuits.specs.Starts.{letters}
+use Rattle.sequence_matches.specs.Matches.{letters}
 
 pub value_there : (trace : List Valuation) (n : ℕ) → n < length trace → (v : Valuation) × (slice_get trace n ≡ Some v)
 value_there trace n within = split (slice_get_cases trace n).1

@@ -5,3 +5,5 @@ pub mod Judging
 pub mod Gating
 pub mod Rising
 pub mod Stopping
+pub mod Small
+pub mod Telling

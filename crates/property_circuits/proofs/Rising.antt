@@ -8,7 +8,8 @@ use Rattle.psl_rewrite.specs.Base.{Base}
 use Rattle.psl_rewrite.specs.Meaning.{named}
 use Rattle.circuit_core.specs.Run.{Stream, On}
 use Rattle.circuit_core.specs.Starts.{Open, ComesBy}
-use Rattle.property_circuits.specs.Starts.{letters, Weak, Full, IsCheck}
+use Rattle.sequence_matches.specs.Matches.{letters}
+use Rattle.property_circuits.specs.Starts.{Weak, Full, IsCheck}
 use Rattle.property_circuits.proofs.Letters.{letters_first, letters_grow}
 use Rattle.property_circuits.proofs.Streams.{comes_or_not, NeverBy}
 

@@ -1,4 +1,4 @@
 pub mod Conditions
-pub mod Counts
+pub mod Told
 pub mod Starts
 pub mod Refusals

@@ -6,7 +6,7 @@
 --     IsCheck ..             `fail` and `pend` tell which starts violate and pend
 --     IsCheckIn m ..         the same of four nets, in each run of the netlist
 --     IsGateOf ..            a gate starts a body so that a check of the body becomes one of the whole
-use Rattle.std.specs.Prelude.{ℕ, suc, ◌⊎◌, ◌≡◌, ◌↔◌, ◌-◌, ◌<◌, ◌≤◌, Bool, IsTrue, List, length, take, drop}
+use Rattle.std.specs.Prelude.{ℕ, suc, ◌⊎◌, ◌≡◌, ◌↔◌, ◌<◌, ◌≤◌, Bool, IsTrue, List, length}
 use Rattle.psl_meaning.specs.Word.{Valuation}
 use Rattle.psl_meaning.specs.Violation.{WeaklyViolates, Violates}
 use Rattle.psl_rewrite.specs.Base.{Base}
@@ -14,10 +14,7 @@ use Rattle.psl_rewrite.specs.Meaning.{named}
 use Rattle.circuit_core.specs.Netlist.{Netlist}
 use Rattle.circuit_core.specs.Run.{Stream, On, InEachRun}
 use Rattle.circuit_core.specs.Starts.{HasViolated, Pends, Answers}
-
--- the letters i to n
-abbrev pub letters : List Valuation → (i n : ℕ) → List Valuation
-letters trace i n = take (suc n - i) (drop i trace)
+use Rattle.sequence_matches.specs.Matches.{letters}
 
 -- the letters i to m violate the formula already, and as a word that ends
 abbrev pub Weak : (widths : List ℕ) → List Valuation → Base → (i m : ℕ) → Type 0

@@ -1,6 +1,6 @@
 //! The circuit of a base formula.
 
-ghost use Rattle.std.specs.Prelude.{◌≡◌, ◌≢◌, ◌↔◌, ◌⊎◌, ◌≤◌, ◌+◌, ℕ, List, [], None, All, IfOk, IfErr, OnOk, IsErrOf};
+ghost use Rattle.std.specs.Prelude.{◌≡◌, ◌↔◌, ◌⊎◌, ◌<◌, ◌≤◌, ℕ, [], None, All, IfOk, IfErr, OnOk, IsErrOf};
 ghost use Rattle.psl_rewrite.specs.View.{base_of};
 ghost use Rattle.psl_rewrite.specs.Meaning.{named};
 ghost use Rattle.circuit_core.specs.Netlist.{IsNet};
@@ -8,19 +8,25 @@ ghost use Rattle.circuit_core.specs.Run.{On, Throughout, InEachRun, InEachCycle}
 ghost use Rattle.circuit_core.specs.Growth.{Extends, Grows};
 ghost use Rattle.circuit_core.specs.WellMade.{IsWidth, IsFinished};
 ghost use Rattle.property_circuits.specs.Conditions.{IsBuilt, HasGuards};
-ghost use Rattle.property_circuits.specs.Counts.{budget_of, steps_of, register_limit, step_limit, told};
+ghost use Rattle.property_circuits.specs.Told.{IsTold};
+ghost use Rattle.formula_limits.specs.Places.{AreSmall, HasTooManyPlaces};
+ghost use Rattle.formula_limits.specs.Registers.{budget_of, register_limit};
+ghost use Rattle.formula_limits.specs.Steps.{HasSteps, step_limit};
+ghost use Rattle.sequence_cores.specs.Places.{told};
 ghost use Rattle.strong_obligations.specs.Bits.{register_bits};
 ghost use Rattle.circuit_meaning.specs.Checks.{Checks};
 ghost use Rattle.property_circuits.specs.Refusals.{IsRefusal, HasTooManyRegisters};
 ghost use Rattle.property_circuits.specs.declared.circuits.CircuitError.TheVariants.{OutOfMemory};
 
-use crate::counts::{count_registers, told_sum};
-use crate::laws::check_at;
-use circuit_core::laws::{a_netlist_is_well_made, growths_join};
+use crate::checks::check_variant;
+use circuit_core::laws::a_netlist_is_well_made;
 use circuit_core::{Check, Net, Netlist};
+use formula_limits::laws::the_first_large_sequence_is_one;
+use formula_limits::{count_registers, large_sequence, told_sum};
 use psl_meaning::laws::weak_violation_persists;
 use psl_rewrite::Base;
 use psl_rewrite::violations::a_weak_violation_is_a_violation;
+use sequence_matches::laws::growths_within_join;
 use std::alloc::{AllocError, Global};
 use strong_obligations::laws::each_register_has_one_bit;
 
@@ -96,32 +102,73 @@ fn over(alloc: Global, widths: &[u32]) -> Result<Netlist, AllocError>
     Netlist::new(alloc, widths)
 }
 
-// The netlist, whatever its size.
-fn whole_check(alloc: Global, base: &Base, widths: &[u32]) -> Result<Netlist, AllocError>
+// The circuit, whatever its size. Its steps are as they are told.
+fn whole_check(alloc: Global, base: &Base, widths: &[u32]) -> Result<Circuit, AllocError>
     requires built { IsBuilt (base_of base.now) }
+    requires small { AreSmall (base_of base.now) }
     requires widths { All IsWidth widths.now }
     requires guards { HasGuards widths.now (base_of base.now) }
-    ensures checks { IfOk result (λ m. Checks m widths.now (named (base_of base.now))) }
-    ensures finished { IfOk result (λ m. IsFinished m) }
-    ensures widths { IfOk result (λ m. m.widths ≡ widths.now) }
-    ensures bits { IfOk result (λ m. register_bits m ≤ budget_of (base_of base.now)) }
+    ensures checks { IfOk result (λ x. Checks x.netlist widths.now (named (base_of base.now))) }
+    ensures finished { IfOk result (λ x. IsFinished x.netlist) }
+    ensures widths { IfOk result (λ x. x.netlist.widths ≡ widths.now) }
+    ensures bits { IfOk result (λ x. register_bits x.netlist ≤ budget_of (base_of base.now)) }
+    ensures steps { IfOk result (λ x. IsTold (base_of base.now) x.steps) }
 {
     weak_violation_persists();
     a_weak_violation_is_a_violation();
-    growths_join();
+    growths_within_join();
     each_register_has_one_bit();
     let mut net = over(alloc, widths)?;
     let (start, never) = first_cycle(&mut net)?;
-    let check = check_at(&mut net, base, start, never)?;
-    let out = failing(&mut net, check)?;
+    let each = check_variant(alloc, &mut net, base, start, never)?;
+    let out = failing(&mut net, each.check)?;
     net.finish(out);
     a_netlist_is_well_made(&net);
-    Ok(net)
+    Ok(Circuit {
+        netlist: net,
+        steps: each.steps,
+    })
+}
+
+// The circuit of a formula whose sequences are small.
+fn small_circuit(
+    alloc: Global,
+    base: &Base,
+    widths: &[u32],
+    steps_left: u64,
+) -> Result<Circuit, CircuitError>
+    requires built { IsBuilt (base_of base.now) }
+    requires small { AreSmall (base_of base.now) }
+    requires widths { All IsWidth widths.now }
+    requires guards { HasGuards widths.now (base_of base.now) }
+    requires steps_left { steps_left ≤ step_limit }
+    ensures checks { IfOk result (λ x. Checks x.netlist widths.now (named (base_of base.now))) }
+    ensures finished { IfOk result (λ x. IsFinished x.netlist) }
+    ensures widths { IfOk result (λ x. x.netlist.widths ≡ widths.now) }
+    ensures bits { IfOk result (λ x. register_bits x.netlist ≤ budget_of (base_of base.now)) }
+    ensures steps { IfOk result (λ x. HasSteps (base_of base.now) x.steps) }
+    ensures within { IfOk result (λ x. (budget_of (base_of base.now) ≤ register_limit) × (x.steps ≤ steps_left)) }
+    ensures refused { IfErr result (λ e. IsRefusal (base_of base.now) steps_left e) }
+    ensures too_many_registers { IsErrOf result (CircuitError.TooManyRegisters (told (budget_of (base_of base.now))))
+        ↔ register_limit < budget_of (base_of base.now) }
+    ensures no_place { (n p : ℕ) → ¬ IsErrOf result (CircuitError.TooManyPlaces n p) }
+{
+    let count = told_sum(1, count_registers(base));
+    if count > REGISTER_LIMIT {
+        return Err(CircuitError::TooManyRegisters { count });
+    }
+    let circuit = whole_check(alloc, base, widths)?;
+    if circuit.steps > steps_left {
+        return Err(CircuitError::TooManySteps {
+            count: circuit.steps,
+        });
+    }
+    Ok(circuit)
 }
 
 /// A netlist over signals of these widths that checks a base formula, and how many steps it has. The formula is refused
-/// where its registers are more than 65,536 bits, with the one that tells the first cycle, and where it has more steps
-/// than are left.
+/// for its first sequence that has more than 4,096 places; where its registers may be more than 65,536 bits, with the
+/// one that tells the first cycle; and where it has more steps than are left.
 pub fn check_circuit(
     alloc: Global,
     base: &Base,
@@ -136,22 +183,21 @@ pub fn check_circuit(
     ensures finished { IfOk result (λ x. IsFinished x.netlist) }
     ensures widths { IfOk result (λ x. x.netlist.widths ≡ widths.now) }
     ensures bits { IfOk result (λ x. register_bits x.netlist ≤ budget_of (base_of base.now)) }
-    ensures steps { IfOk result (λ x. x.steps ≡ steps_of (base_of base.now)) }
-    ensures within { OnOk result ((budget_of (base_of base.now) ≤ register_limit)
-        × (steps_of (base_of base.now) ≤ steps_left)) }
+    ensures steps { IfOk result (λ x. HasSteps (base_of base.now) x.steps) }
+    ensures within { IfOk result (λ x. AreSmall (base_of base.now) × (budget_of (base_of base.now) ≤ register_limit)
+        × (x.steps ≤ steps_left)) }
     ensures refused { IfErr result (λ e. IsRefusal (base_of base.now) steps_left e) }
+    ensures too_many_places { (n p : ℕ) →
+        IsErrOf result (CircuitError.TooManyPlaces n p) ↔ HasTooManyPlaces (base_of base.now) n p }
     ensures too_many_registers { IsErrOf result (CircuitError.TooManyRegisters (told (budget_of (base_of base.now))))
         ↔ HasTooManyRegisters (base_of base.now) }
 {
-    let count = told_sum(1, count_registers(base));
-    if count > REGISTER_LIMIT {
-        return Err(CircuitError::TooManyRegisters { count });
+    the_first_large_sequence_is_one();
+    match large_sequence(base) {
+        Some(large) => Err(CircuitError::TooManyPlaces {
+            sequence: large.sequence,
+            places: large.places,
+        }),
+        None => small_circuit(alloc, base, widths, steps_left),
     }
-    // Steps are those of sequences' tables, and no formula with a sequence is built.
-    let steps = 0;
-    if steps > steps_left {
-        return Err(CircuitError::TooManySteps { count: steps });
-    }
-    let netlist = whole_check(alloc, base, widths)?;
-    Ok(Circuit { netlist, steps })
 }

@@ -6,7 +6,8 @@ ghost use Rattle.psl_rewrite.specs.Base as base;
 ghost use Rattle.psl_rewrite.specs.Base.{Base};
 ghost use Rattle.circuit_core.specs.Netlist.{IsNet};
 ghost use Rattle.circuit_core.specs.Run.{InEachRun};
-ghost use Rattle.circuit_core.specs.Growth.{Extends, Grows};
+ghost use Rattle.circuit_core.specs.Growth.{Extends};
+ghost use Rattle.sequence_matches.specs.Growth.{GrowsWithin};
 ghost use Rattle.circuit_core.specs.WellMade.{IsGuard};
 ghost use Rattle.property_circuits.specs.Conditions.{IsBuilt};
 ghost use Rattle.property_circuits.specs.Starts.{IsGateOf, WaitsIfStrong};
@@ -15,6 +16,7 @@ use circuit_core::laws::{extensions_join, growths_join};
 use circuit_core::{Check, Gate, Net, Netlist};
 use psl_model::Expr;
 use psl_rewrite::violations::tops_for_ever_satisfy;
+use sequence_matches::laws::growths_within_join;
 use std::alloc::AllocError;
 use strong_obligations::{next_chain, until_gate};
 use violation_laws::{
@@ -34,7 +36,7 @@ pub fn later_starts(
     requires start { IsNet net.old start.0 }
     requires clear { IsNet net.old clear.0 }
     ensures kept { Extends net.old net.new }
-    ensures grows { OnOk result (Grows net.old net.new high) }
+    ensures grows { OnOk result (GrowsWithin net.old net.new high) }
     ensures go_net { IfOk result (λ g. IsNet net.new g.go.0) }
     ensures pend_net { IfOk result (λ g. IsNet net.new g.pend.0) }
     ensures one { IfOk result (λ g. InEachRun net.new (λ inputs run.
@@ -49,6 +51,7 @@ pub fn later_starts(
     tops_for_ever_satisfy();
     next_is_its_body_later_so_far();
     next_is_its_body_later();
+    growths_within_join();
     let gate = next_chain(net, low, high, start, clear)?;
     Ok(gate)
 }
@@ -64,7 +67,7 @@ pub fn starts_until(
     requires start { IsNet net.old start.0 }
     requires clear { IsNet net.old clear.0 }
     ensures kept { Extends net.old net.new }
-    ensures grows { OnOk result (Grows net.old net.new 1) }
+    ensures grows { OnOk result (GrowsWithin net.old net.new 1) }
     ensures go_net { IfOk result (λ g. IsNet net.new g.go.0) }
     ensures pend_net { IfOk result (λ g. IsNet net.new g.pend.0) }
     ensures gate { IfOk result (λ g. InEachRun net.new (λ inputs run. (strong : Bool) (f : Base) →
@@ -74,7 +77,7 @@ pub fn starts_until(
     until_is_its_body_before_the_stop_so_far();
     until_is_its_body_before_the_stop();
     extensions_join();
-    growths_join();
+    growths_within_join();
     let stopped = net.guard(stop)?;
     let gate = until_gate(net, stopped, start, clear)?;
     Ok(gate)
@@ -91,7 +94,7 @@ pub fn join_waiting(
     requires pend { IsNet net.old check.pend.0 }
     requires waits { IsNet net.old waits.0 }
     ensures kept { Extends net.old net.new }
-    ensures grows { OnOk result (Grows net.old net.new 0) }
+    ensures grows { OnOk result (GrowsWithin net.old net.new 0) }
     ensures fail_net { IfOk result (λ c. IsNet net.new c.fail.0) }
     ensures pend_net { IfOk result (λ c. IsNet net.new c.pend.0) }
     ensures fails { IfOk result (λ c. c.fail.0 ≡ check.fail.0) }
@@ -100,6 +103,7 @@ pub fn join_waiting(
 {
     extensions_join();
     growths_join();
+    growths_within_join();
     if strong {
         let pend = net.or(check.pend, waits)?;
         Ok(Check {

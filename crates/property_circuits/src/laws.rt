@@ -1,4 +1,4 @@
-//! The recursion that makes a check, and laws of checks.
+//! The check of a formula, and laws of checks.
 
 ghost use Rattle.std.specs.Prelude.{◌≡◌, ◌↔◌, ◌<◌, ◌≤◌, ◌+◌, ℕ, suc, List, IfOk, OnOk, length};
 ghost use Rattle.psl_meaning.specs.Word.{Valuation};
@@ -7,30 +7,38 @@ ghost use Rattle.psl_rewrite.specs.Base as base;
 ghost use Rattle.circuit_core.specs.Netlist.{IsNet};
 ghost use Rattle.circuit_core.specs.Run.{Stream, On};
 ghost use Rattle.circuit_core.specs.Starts.{SomeStart, ComesBy};
-ghost use Rattle.circuit_core.specs.Growth.{Extends, Grows};
+ghost use Rattle.circuit_core.specs.Growth.{Extends};
 ghost use Rattle.property_circuits.specs.Conditions.{IsBuilt, HasGuards};
-ghost use Rattle.property_circuits.specs.Counts.{registers_of};
+ghost use Rattle.sequence_matches.specs.Growth.{GrowsWithin};
+ghost use Rattle.formula_limits.specs.Places.{AreSmall};
+ghost use Rattle.formula_limits.specs.Registers.{registers_of};
 ghost use Rattle.strong_obligations.specs.Bits.{register_bits};
 ghost use Rattle.property_circuits.specs.Starts.{IsCheck, IsCheckIn, IsStop, StartViolates, StartPends, Weak};
 
-use crate::gates::{join_waiting, later_starts, starts_until};
-use crate::parts::{check_bool, join, open_starts, starts_with, starts_without};
-use circuit_core::laws::{a_netlist_is_well_made, extensions_join, growths_join};
+use crate::checks::check_variant;
+use circuit_core::laws::a_netlist_is_well_made;
 use circuit_core::{Check, Net, Netlist};
 use psl_meaning::laws::weak_violation_persists;
 use psl_rewrite::Base;
-use std::alloc::AllocError;
+use std::alloc::{AllocError, Global};
 use strong_obligations::laws::each_register_has_one_bit;
 
 /// The check of a base formula that two nets start and clear, whatever their streams. The old nets and registers stay,
-/// and the new registers are set.
-pub fn check_at(net: &mut Netlist, base: &Base, start: Net, clear: Net) -> Result<Check, AllocError>
+/// and the new registers, at most as many as are counted for the formula, are set.
+pub fn check_at(
+    alloc: Global,
+    net: &mut Netlist,
+    base: &Base,
+    start: Net,
+    clear: Net,
+) -> Result<Check, AllocError>
     requires built { IsBuilt (base_of base.now) }
+    requires small { AreSmall (base_of base.now) }
     requires guards { HasGuards net.old.widths (base_of base.now) }
     requires start { IsNet net.old start.0 }
     requires clear { IsNet net.old clear.0 }
     ensures kept { Extends net.old net.new }
-    ensures grows { OnOk result (Grows net.old net.new (registers_of (base_of base.now))) }
+    ensures grows { OnOk result (GrowsWithin net.old net.new (registers_of (base_of base.now))) }
     ensures bits { OnOk result (register_bits net.new ≤ register_bits net.old + registers_of (base_of base.now)) }
     ensures fail_net { IfOk result (λ c. IsNet net.new c.fail.0) }
     ensures pend_net { IfOk result (λ c. IsNet net.new c.pend.0) }
@@ -39,86 +47,9 @@ pub fn check_at(net: &mut Netlist, base: &Base, start: Net, clear: Net) -> Resul
 {
     each_register_has_one_bit();
     a_netlist_is_well_made(net);
-    let check = check_variant(net, base, start, clear)?;
+    let each = check_variant(alloc, net, base, start, clear)?;
     a_netlist_is_well_made(net);
-    Ok(check)
-}
-
-// The recursion.
-fn check_variant(
-    net: &mut Netlist,
-    base: &Base,
-    start: Net,
-    clear: Net,
-) -> Result<Check, AllocError>
-    requires built { IsBuilt (base_of base.now) }
-    requires guards { HasGuards net.old.widths (base_of base.now) }
-    requires start { IsNet net.old start.0 }
-    requires clear { IsNet net.old clear.0 }
-    ensures kept { Extends net.old net.new }
-    ensures grows { OnOk result (Grows net.old net.new (registers_of (base_of base.now))) }
-    ensures fail_net { IfOk result (λ c. IsNet net.new c.fail.0) }
-    ensures pend_net { IfOk result (λ c. IsNet net.new c.pend.0) }
-    ensures check { IfOk result (λ c.
-        IsCheckIn net.new net.old.widths (base_of base.now) start.0 clear.0 c.fail.0 c.pend.0) }
-{
-    growths_join();
-    extensions_join();
-    match base {
-        Base::Bool(expr) => {
-            let check = check_bool(net, expr, start, clear)?;
-            Ok(check)
-        }
-        Base::And(left, right) => {
-            let one = check_variant(net, left.get(), start, clear)?;
-            let two = check_variant(net, right.get(), start, clear)?;
-            let check = join(net, one, two)?;
-            Ok(check)
-        }
-        Base::OrBool(expr, body) => {
-            let begun = starts_without(net, expr, start)?;
-            let check = check_variant(net, body.get(), begun, clear)?;
-            Ok(check)
-        }
-        Base::Implies(expr, body) => {
-            let begun = starts_with(net, expr, start)?;
-            let check = check_variant(net, body.get(), begun, clear)?;
-            Ok(check)
-        }
-        Base::Always(body) => {
-            let begun = open_starts(net, start, clear)?;
-            let each = check_variant(net, body.get(), begun, clear)?;
-            Ok(each)
-        }
-        Base::Next {
-            strong,
-            count,
-            body,
-        } => {
-            let gate = later_starts(net, *count, *count, start, clear)?;
-            let each = check_variant(net, body.get(), gate.go, clear)?;
-            let check = join_waiting(net, each, *strong, gate.pend)?;
-            Ok(check)
-        }
-        Base::NextAll {
-            strong,
-            low,
-            high,
-            body,
-        } => {
-            let gate = later_starts(net, *low, *high, start, clear)?;
-            let each = check_variant(net, body.get(), gate.go, clear)?;
-            let check = join_waiting(net, each, *strong, gate.pend)?;
-            Ok(check)
-        }
-        Base::Until { strong, body, stop } => {
-            let gate = starts_until(net, stop, start, clear)?;
-            let each = check_variant(net, body.get(), gate.go, clear)?;
-            let check = join_waiting(net, each, *strong, gate.pend)?;
-            Ok(check)
-        }
-        _ => unreachable!(),
-    }
+    Ok(each.check)
 }
 
 /// What the two streams of a check tell of starts. The function does nothing.

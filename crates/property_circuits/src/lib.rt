@@ -1,8 +1,8 @@
 //! Checks as circuits: from a base formula to a netlist whose output tells where a trace violates it.
 #![tactic(auto)]
 
+mod checks;
 mod circuits;
-mod counts;
 mod gates;
 pub mod laws;
 mod parts;

@@ -1,7 +1,7 @@
 use Rattle.psl_model.specs.View.{expr_of}
 use Rattle.psl_rewrite.specs.Base as base
 use Rattle.psl_rewrite.specs.Meaning.{named}
-use Rattle.property_circuits.proofs.Growing.{grows_same}
+use Rattle.property_circuits.proofs.Growing.{within_same}
 use Rattle.property_circuits.proofs.Gating.{until_gate}
 use Rattle.property_circuits.proofs.gates.starts_until.Goals as goal
 
@@ -9,8 +9,10 @@ pub returns-clause-grows : goal.returns-clause-grows
 returns-clause-grows c =
     let m0 = c.args.net.now in
     let m1 = c.guard.new.self in
-    c.growths_join.ensures.twice m0 m1 c.until_gate.new.net 0 1
-    (grows_same m0 m1 c.in_ok-stopped.ensures.kept c.in_ok-stopped.ensures.registers) c.in_ok-gate.ensures.grows
+    let m2 = c.until_gate.new.net in
+    c.growths_within_join.ensures.twice m0 m1 m2 0 1
+    (within_same m0 m1 c.in_ok-stopped.ensures.kept c.in_ok-stopped.ensures.registers)
+    (c.growths_within_join.ensures.counted m1 m2 1 c.in_ok-gate.ensures.grows)
 
 pub returns-clause-gate : goal.returns-clause-gate
 returns-clause-gate c inputs run h s f =

@@ -6,4 +6,4 @@ returns-clause-bits c =
     let bits = c.each_register_has_one_bit.ensures in
     let before = bits c.args.net.now c.a_netlist_is_well_made.ensures in
     let after = bits c.check_variant.new.net c.a_netlist_is_well_made-2.ensures in
-    omega (arith, before, after, c.in_ok-check.ensures.grows.count)
+    omega (arith, before, after, c.in_ok-each.ensures.grows.count)

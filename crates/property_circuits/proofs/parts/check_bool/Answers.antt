@@ -1,7 +1,7 @@
 use Rattle.psl_model.specs.View.{expr_of}
 use Rattle.psl_model.specs.Value.{own_value}
 use Rattle.std.proofs.Common.{◌∙◌}
-use Rattle.property_circuits.proofs.Growing.{grows_same}
+use Rattle.property_circuits.proofs.Growing.{within_same}
 use Rattle.property_circuits.proofs.Judging.{bool_check, is_zero}
 use Rattle.property_circuits.proofs.parts.check_bool.Goals as goal
 
@@ -22,7 +22,7 @@ pub returns-clause-grows : goal.returns-clause-grows
 returns-clause-grows c =
     let same = c.in_ok-pend.ensures.registers ∙ c.in_ok-fail.ensures.registers ∙ c.in_ok-begun.ensures.registers
     ∙ c.in_ok-open.ensures.registers ∙ c.in_ok-missed.ensures.registers ∙ c.in_ok-test.ensures.registers in
-    grows_same c.args.net.now c.bit.new.self (returns-clause-kept c) same
+    within_same c.args.net.now c.bit.new.self (returns-clause-kept c) same
 
 pub returns-clause-check : goal.returns-clause-check
 returns-clause-check c inputs run r6 =
