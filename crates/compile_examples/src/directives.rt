@@ -133,7 +133,7 @@ fn is_compiled(alloc: Global, unit: &PslUnit, directive: &Directive) -> bool
     requires directive { directive_of directive.now ≡ units.directive }
 {
     the_unit_is_well_made();
-    match checker_of_directive(alloc, unit, 1, directive) {
+    match checker_of_directive(alloc, unit, 1, directive, 1_000_000) {
         Ok(made) => is_right(alloc, &made),
         Err(_) => false,
     }

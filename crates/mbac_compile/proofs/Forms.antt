@@ -27,7 +27,7 @@ next_built s reach.One low high f = refl
 next_built s reach.All low high f = refl
 next_built s reach.Some low high f = refl
 
-pub never_built : (f : Formula) → is_built (base_form_of (formula.never f)) ≡ not (is_sequence f)
+pub never_built : (f : Formula) → is_built (base_form_of (formula.never f)) ≡ true
 never_built (formula.seq r s) = refl
 never_built f = refl
 

@@ -1,9 +1,10 @@
 mod Alike
 mod Bits
 mod Built
+mod Counts
 mod Forms
-mod Guards
 mod Joined
 mod Names
 mod Ports
 mod Refused
+mod Steps

@@ -24,7 +24,7 @@ is_built (event s on low high f) = false
 is_built (event_some s on low high e) = false
 is_built (seq r s) = false
 is_built (eventually r) = false
-is_built (suffix r f) = false
+is_built (suffix r f) = is_built f
 is_built (abort f on) = false
 
 abbrev pub HasBuiltForm : Formula → Type 0

@@ -1,16 +1,13 @@
 -- Why a directive gets no checker. What stands against its form comes before all else: that it is outside the simple
 -- subset, and then that it isn't built.
 --     IsUnfit f error       the form of f is refused so
---     IsRefused f error     so is f
-use Rattle.std.specs.Prelude.{◌≡◌, Some}
+--     IsRefused f steps_left error     so is f, where so many steps are left
+use Rattle.std.specs.Prelude.{ℕ, ◌≡◌, Some}
 use Rattle.psl_model.specs.Formula.{Formula}
 use Rattle.simple_subset.specs.Subset.{first_broken, InSubset}
 use Rattle.psl_rewrite.specs.BaseForm.{base_form_of}
-use Rattle.property_circuits.specs.Counts.{budget_of, told}
-use Rattle.property_circuits.specs.Refusals.{HasTooManyRegisters}
-use Rattle.property_circuits.specs.declared.circuits.CircuitError.TheVariants.{TooManyPlaces, Contradiction}
-use Rattle.property_circuits.specs.declared.circuits.CircuitError.TheVariants.{SequenceTooLarge, TooManyRegisters}
-use Rattle.property_circuits.specs.declared.circuits.CircuitError.TheVariants.{TooManySteps, OutOfMemory}
+use Rattle.property_circuits.specs.Refusals.{IsRefusal}
+use Rattle.property_circuits.specs.declared.circuits.CircuitError.TheVariants.{OutOfMemory}
 use Rattle.mbac_compile.specs.Built.{HasBuiltForm, IsBuilt}
 use Rattle.mbac_compile.specs.declared.directives.CheckError.{CheckError}
 use Rattle.mbac_compile.specs.declared.directives.CheckError.TheVariants.{Subset, Unbuilt, Circuit}
@@ -25,14 +22,8 @@ IsUnfit f Unbuilt = IsUnbuilt f
 IsUnfit f (Circuit error) = ⊥
 
 -- a reason for which the formula is refused; want of memory may come at any time
-abbrev pub IsRefused : Formula → CheckError → Type 0
-IsRefused f (Subset rule) = first_broken f ≡ Some rule.number
-IsRefused f Unbuilt = IsUnbuilt f
-IsRefused f (Circuit (TooManyRegisters count)) =
-    IsBuilt f × HasTooManyRegisters (base_form_of f) × (count ≡ told (budget_of (base_form_of f)))
-IsRefused f (Circuit OutOfMemory) = Unit {0}
--- no formula with a sequence is built
-IsRefused f (Circuit (TooManyPlaces sequence places)) = ⊥
-IsRefused f (Circuit (Contradiction sequence)) = ⊥
-IsRefused f (Circuit (SequenceTooLarge sequence)) = ⊥
-IsRefused f (Circuit (TooManySteps count)) = ⊥
+abbrev pub IsRefused : Formula → (steps_left : ℕ) → CheckError → Type 0
+IsRefused f steps_left (Subset rule) = first_broken f ≡ Some rule.number
+IsRefused f steps_left Unbuilt = IsUnbuilt f
+IsRefused f steps_left (Circuit OutOfMemory) = Unit {0}
+IsRefused f steps_left (Circuit error) = IsBuilt f × IsRefusal (base_form_of f) steps_left error

@@ -1,6 +1,6 @@
 //! The checker module of a base formula.
 
-ghost use Rattle.std.specs.Prelude.{◌≡◌, ◌↔◌, ◌≤◌, ℕ, List, IfOk, IfErr, OnOk, IsErrOf, sum};
+ghost use Rattle.std.specs.Prelude.{◌≡◌, ◌↔◌, ◌≤◌, ℕ, List, IfOk, IfErr, IsErrOf, sum};
 ghost use Rattle.psl_model.specs.Formula.{Formula};
 ghost use Rattle.psl_rewrite.specs.View.{base_of};
 ghost use Rattle.psl_rewrite.specs.Meaning.{named};
@@ -10,9 +10,12 @@ ghost use Rattle.verilog_text.specs.Module.{IsLawful};
 ghost use Rattle.verilog_text.specs.State.{register_widths};
 ghost use Rattle.verilog_text.specs.View.{module_of};
 ghost use Rattle.property_circuits.specs.Conditions.{IsBuilt, HasGuards};
-ghost use Rattle.property_circuits.specs.Counts.{budget_of, steps_of, register_limit, step_limit, told};
+ghost use Rattle.formula_limits.specs.Places.{AreSmall, HasTooManyPlaces};
+ghost use Rattle.formula_limits.specs.Registers.{budget_of, register_limit};
+ghost use Rattle.formula_limits.specs.Steps.{HasSteps, step_limit};
+ghost use Rattle.sequence_cores.specs.Places.{told};
 ghost use Rattle.property_circuits.specs.Refusals.{IsRefusal, HasTooManyRegisters};
-ghost use Rattle.property_circuits.specs.declared.circuits.CircuitError.TheVariants.{TooManyRegisters};
+ghost use Rattle.property_circuits.specs.declared.circuits.CircuitError.TheVariants.{TooManyPlaces, TooManyRegisters};
 ghost use Rattle.checker_meaning.specs.Checks.{Checks};
 ghost use Rattle.checked_modules.specs.Readings.{ReadsAs};
 
@@ -54,10 +57,12 @@ pub fn checker_of(
     ensures report { IfOk result (λ x. x.checker.report ≡ report) }
     ensures ports { IfOk result (λ x. x.checker.ports ≡ ports.items) }
     ensures bits { IfOk result (λ x. sum (register_widths (module_of x.checker)) ≤ budget_of (base_of base.now)) }
-    ensures steps { IfOk result (λ x. x.steps ≡ steps_of (base_of base.now)) }
-    ensures within { OnOk result ((budget_of (base_of base.now) ≤ register_limit)
-        × (steps_of (base_of base.now) ≤ steps_left)) }
+    ensures steps { IfOk result (λ x. HasSteps (base_of base.now) x.steps) }
+    ensures within { IfOk result (λ x. AreSmall (base_of base.now) × (budget_of (base_of base.now) ≤ register_limit)
+        × (x.steps ≤ steps_left)) }
     ensures refused { IfErr result (λ e. IsRefusal (base_of base.now) steps_left e) }
+    ensures too_many_places { (n p : ℕ) →
+        IsErrOf result (TooManyPlaces n p) ↔ HasTooManyPlaces (base_of base.now) n p }
     ensures too_many_registers { IsErrOf result (TooManyRegisters (told (budget_of (base_of base.now))))
         ↔ HasTooManyRegisters (base_of base.now) }
 {

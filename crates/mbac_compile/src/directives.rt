@@ -7,7 +7,9 @@ ghost use Rattle.psl_rewrite.specs.BaseForm.{base_form_of};
 ghost use Rattle.verilog_text.specs.Module.{IsLawful};
 ghost use Rattle.verilog_text.specs.State.{register_widths};
 ghost use Rattle.verilog_text.specs.View.{module_of};
-ghost use Rattle.property_circuits.specs.Counts.{budget_of, steps_of, register_limit, step_limit};
+ghost use Rattle.formula_limits.specs.Places.{AreSmall};
+ghost use Rattle.formula_limits.specs.Registers.{budget_of, register_limit};
+ghost use Rattle.formula_limits.specs.Steps.{HasSteps, step_limit};
 ghost use Rattle.property_circuits.specs.Refusals.{IsRefusal};
 ghost use Rattle.checker_meaning.specs.Headline.{IsCheckerOf};
 ghost use Rattle.mbac_compile.specs.Built.{IsBuilt};
@@ -20,17 +22,14 @@ use crate::checkers::{Checker, checker_of};
 use crate::formulas::{base_over, has_built_form};
 use crate::interfaces::{module_name, ports_at, shown_report, widths_of};
 use crate::laws::{
-    a_built_formula_has_a_built_base_form, a_built_formula_reads_as_its_base_form,
-    a_unit_gives_interfaces,
+    a_built_formula_counts_as_its_base_form, a_built_formula_has_a_built_base_form,
+    a_built_formula_reads_as_its_base_form, a_unit_gives_interfaces,
 };
 use port_formulas::used_places;
 use property_circuits::CircuitError;
 use psl_model::{Directive, Formula, PslUnit};
 use simple_subset::{Rule, check};
 use std::alloc::Global;
-
-/// The most steps that the tables of a unit's sequences may have.
-const STEP_LIMIT: u64 = 1_000_000;
 
 /// Why a directive gets no checker.
 #[derive(Clone, Copy, Debug, PartialEq, Eq)]
@@ -73,31 +72,34 @@ pub fn check_form(formula: &Formula) -> Result<(), CheckError>
     }
 }
 
-/// The checker of a unit's directive. The number is the directive's place among those of its unit, from 1; the name of
-/// a directive without a label has it.
+/// The checker of a unit's directive, where so many steps are left. The number is the directive's place among those of
+/// its unit, from 1; the name of a directive without a label has it.
 #[tactic(auto, using(crate::proofs::Refused::refused_so))]
 pub fn checker_of_directive(
     alloc: Global,
     unit: &PslUnit,
     number: usize,
     directive: &Directive,
+    steps_left: u64,
 ) -> Result<Checker, CheckError>
     requires names { IsWellNamed (unit_of unit.now) }
     requires words { IsWellWorded (directive_of directive.now) }
     requires expressions { IsWellFormed (unit_of unit.now) (directive_of directive.now) }
+    requires steps_left { steps_left ≤ step_limit }
     ensures checker { IfOk result (λ x.
         IsCheckerOf (unit_of unit.now) number (directive_of directive.now) (module_of x.checker)) }
     ensures lawful { IfOk result (λ x. IsLawful (module_of x.checker)) }
     ensures bits { IfOk result (λ x.
         sum (register_widths (module_of x.checker)) ≤ budget_of (base_form_of (formula_of directive.now.formula))) }
-    ensures steps { IfOk result (λ x. x.steps ≡ steps_of (base_form_of (formula_of directive.now.formula))) }
-    ensures within { OnOk result (budget_of (base_form_of (formula_of directive.now.formula)) ≤ register_limit) }
+    ensures steps { IfOk result (λ x. HasSteps (base_form_of (formula_of directive.now.formula)) x.steps) }
+    ensures within { IfOk result (λ x. AreSmall (base_form_of (formula_of directive.now.formula))
+        × (budget_of (base_form_of (formula_of directive.now.formula)) ≤ register_limit) × (x.steps ≤ steps_left)) }
     ensures built { OnOk result (IsBuilt (formula_of directive.now.formula)) }
     ensures unfit { (error : CheckError) → IsUnfit (formula_of directive.now.formula) error → IsErrOf result error }
-    ensures refused { IfErr result (IsRefused (formula_of directive.now.formula)) }
+    ensures refused { IfErr result (IsRefused (formula_of directive.now.formula) steps_left) }
 {
     check_form(&directive.formula)?;
-    let checker = built_checker(alloc, unit, number, directive)?;
+    let checker = built_checker(alloc, unit, number, directive, steps_left)?;
     Ok(checker)
 }
 
@@ -107,22 +109,26 @@ fn built_checker(
     unit: &PslUnit,
     number: usize,
     directive: &Directive,
+    steps_left: u64,
 ) -> Result<Checker, CircuitError>
     requires names { IsWellNamed (unit_of unit.now) }
     requires words { IsWellWorded (directive_of directive.now) }
     requires expressions { IsWellFormed (unit_of unit.now) (directive_of directive.now) }
+    requires steps_left { steps_left ≤ step_limit }
     requires built { IsBuilt (formula_of directive.now.formula) }
     ensures checker { IfOk result (λ x.
         IsCheckerOf (unit_of unit.now) number (directive_of directive.now) (module_of x.checker)) }
     ensures lawful { IfOk result (λ x. IsLawful (module_of x.checker)) }
     ensures bits { IfOk result (λ x.
         sum (register_widths (module_of x.checker)) ≤ budget_of (base_form_of (formula_of directive.now.formula))) }
-    ensures steps { IfOk result (λ x. x.steps ≡ steps_of (base_form_of (formula_of directive.now.formula))) }
-    ensures within { OnOk result (budget_of (base_form_of (formula_of directive.now.formula)) ≤ register_limit) }
+    ensures steps { IfOk result (λ x. HasSteps (base_form_of (formula_of directive.now.formula)) x.steps) }
+    ensures within { IfOk result (λ x. AreSmall (base_form_of (formula_of directive.now.formula))
+        × (budget_of (base_form_of (formula_of directive.now.formula)) ≤ register_limit) × (x.steps ≤ steps_left)) }
     ensures refused { IfErr result
-        (IsRefusal (base_form_of (formula_of directive.now.formula)) step_limit) }
+        (IsRefusal (base_form_of (formula_of directive.now.formula)) steps_left) }
 {
     a_built_formula_has_a_built_base_form();
+    a_built_formula_counts_as_its_base_form();
     a_built_formula_reads_as_its_base_form();
     a_unit_gives_interfaces();
     let places = used_places(alloc, unit.signals.len(), &directive.formula)?;
@@ -131,6 +137,6 @@ fn built_checker(
     let widths = widths_of(alloc, &ports)?;
     let name = module_name(alloc, &unit.name, number, &directive.label)?;
     let report = shown_report(alloc, &directive.report)?;
-    let checker = checker_of(alloc, &base, &widths, STEP_LIMIT, name, report, ports)?;
+    let checker = checker_of(alloc, &base, &widths, steps_left, name, report, ports)?;
     Ok(checker)
 }

@@ -38,7 +38,11 @@ pub fn has_built_form(formula: &Formula) -> bool
     ensures { result ≡ is_built (base_form_of (formula_of formula.now)) }
 {
     match formula {
-        Formula::Bool(_) | Formula::Not(_) | Formula::Iff(_, _) | Formula::Before { .. } => true,
+        Formula::Bool(_)
+        | Formula::Not(_)
+        | Formula::Iff(_, _)
+        | Formula::Before { .. }
+        | Formula::Never(_) => true,
         Formula::And(left, right) => has_built_form(left.get()) && has_built_form(right.get()),
         Formula::Or(left, right) => {
             if is_boolean(left.get()) {
@@ -47,7 +51,9 @@ pub fn has_built_form(formula: &Formula) -> bool
                 has_built_form(left.get())
             }
         }
-        Formula::Implies(_, body) | Formula::Always(body) => has_built_form(body.get()),
+        Formula::Implies(_, body) | Formula::Always(body) | Formula::Suffix { body, .. } => {
+            has_built_form(body.get())
+        }
         Formula::Until { left, .. } => has_built_form(left.get()),
         Formula::Next {
             reach,
@@ -56,11 +62,8 @@ pub fn has_built_form(formula: &Formula) -> bool
             body,
             ..
         } => fits_reach(*reach, *low, *high) && has_built_form(body.get()),
-        Formula::Never(body) | Formula::Eventually(body) => !is_sequence(body.get()),
-        Formula::Seq { .. }
-        | Formula::Suffix { .. }
-        | Formula::Event { .. }
-        | Formula::Abort(_, _) => false,
+        Formula::Eventually(body) => !is_sequence(body.get()),
+        Formula::Seq { .. } | Formula::Event { .. } | Formula::Abort(_, _) => false,
     }
 }
 

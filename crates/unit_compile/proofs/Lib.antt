@@ -1,5 +1,6 @@
 pub mod Conditions
 pub mod OneAnswer
+pub mod OneRefusal
 pub mod Unmade
 pub mod Loops
 pub mod ModuleNames

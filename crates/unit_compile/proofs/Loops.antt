@@ -1,16 +1,16 @@
 -- One directive after the other.
-use Rattle.std.proofs.Common.{◌≡◌, ℕ, suc, ◌+◌, ◌<◌, Option, None, Some, List, []}
+use Rattle.std.proofs.Common.{◌≡◌, ℕ, suc, ◌+◌, ◌<◌, ◌≤◌, List, []}
 use Rattle.std.proofs.Common.{◌∷◌, ◌++◌, length, map, drop, get_or, ap, sym, subst, ◌∙◌, append_assoc, add-one}
 use Rattle.std.proofs.Common.{All, arith, inl, inr}
 use Rattle.std.proofs.Math.Seq.{drop-cons, drop-length}
 use Rattle.std.proofs.lemmas.List.{append-nil, get_or-map, length-map}
-use Rattle.std.specs.Option.{option_or}
 use Rattle.psl_model.specs.declared.refusals.Refusal.{Refusal}
 use Rattle.psl_model.specs.declared.units.Directive as declared
 use Rattle.psl_model.specs.Unit.{PslUnit, Directive}
 use Rattle.psl_model.specs.UnitView.{directive_of}
 use Rattle.verilog_text.specs.Module.{Module}
-use Rattle.unit_compile.specs.Directives.{directive_refusal, first_refusal}
+use Rattle.formula_limits.specs.Steps.{step_limit}
+use Rattle.unit_compile.specs.Directives.{IsTakenAt, FirstRefusal, AreTaken}
 use Rattle.unit_compile.specs.Made.{AreMade}
 use Rattle.unit_compile.specs.inner.Unmade.{HasOneMore, IsUnmade, AreUnmade}
 
@@ -77,30 +77,40 @@ made_whole unit xs i ms e so_far =
     subst (λ (all : List Module). AreMade unit 1 (plain xs) all) (append-nil ms)
     (so_far [] (subst (λ (ds : List Directive). AreMade unit (i + 1) ds []) (sym (none_at xs i e)) none))
 
--- ---- the first that is refused
+-- ---- what is judged of them
 
-abbrev pub UnrefusedSoFar : List declared.Directive → (i : ℕ) → Type 0
-UnrefusedSoFar xs i = first_refusal 1 (plain xs) ≡ first_refusal (i + 1) (plain_from xs i)
+-- what is so of the rest is so of all, where so many steps are counted
+pub record JudgedSoFar (xs : List declared.Directive) (i steps : ℕ) : Type 0 where
+  pub within : steps ≤ step_limit
+  pub taken : AreTaken steps (plain_from xs i) → AreTaken 0 (plain xs)
+  pub refused : (r : Refusal) → FirstRefusal (i + 1) steps (plain_from xs i) r → FirstRefusal 1 0 (plain xs) r
 
-judged_next : (xs : List declared.Directive) (i : ℕ) (x : declared.Directive) (own : Option Refusal) → StandsAt xs i x
-    → directive_refusal (i + 1) (directive_of x) ≡ own → UnrefusedSoFar xs i
-    → first_refusal 1 (plain xs) ≡ option_or own (first_refusal (suc (i + 1)) (plain_from xs (i + 1)))
-judged_next xs i x own at e so_far =
-    so_far ∙ ap (first_refusal (i + 1)) (next_at xs i x at)
-    ∙ ap (λ (o : Option Refusal). option_or o (first_refusal (suc (i + 1)) (plain_from xs (i + 1)))) e
+pub none_judged : (xs : List declared.Directive) → JudgedSoFar xs 0 0
+none_judged xs = record { within = omega arith; taken = λ h. h; refused = λ r h. h }
 
-pub unrefused_next : (xs : List declared.Directive) (i : ℕ) (x : declared.Directive) → StandsAt xs i x
-    → directive_refusal (i + 1) (directive_of x) ≡ None → UnrefusedSoFar xs i → UnrefusedSoFar xs (i + 1)
-unrefused_next xs i x at e so_far =
-    judged_next xs i x None at e so_far
-    ∙ ap (λ (n : ℕ). first_refusal n (plain_from xs (i + 1))) (sym (add-one (i + 1)))
+pub judged_next : (xs : List declared.Directive) (i steps after : ℕ) (x : declared.Directive) → StandsAt xs i x
+    → IsTakenAt steps (directive_of x) after → JudgedSoFar xs i steps → JudgedSoFar xs (i + 1) after
+judged_next xs i steps after x at here so_far = record {
+  within = here.within;
+  taken = λ h.
+      so_far.taken (subst (λ (ds : List Directive). AreTaken steps ds) (sym (next_at xs i x at)) (after, here, h));
+  refused = λ r h.
+      let rest : FirstRefusal (suc (i + 1)) after (plain_from xs (i + 1)) r =
+      subst (λ (n : ℕ). FirstRefusal n after (plain_from xs (i + 1)) r) (add-one (i + 1)) h in
+      so_far.refused r
+      (subst (λ (ds : List Directive). FirstRefusal (i + 1) steps ds r) (sym (next_at xs i x at))
+      (inr (after, here, rest)));
+}
 
-pub unrefused_whole : (xs : List declared.Directive) (i : ℕ) → i ≡ length xs → UnrefusedSoFar xs i
-    → first_refusal 1 (plain xs) ≡ None
-unrefused_whole xs i e so_far = so_far ∙ ap (first_refusal (i + 1)) (none_at xs i e)
+pub taken_whole : (xs : List declared.Directive) (i steps : ℕ) → i ≡ length xs → JudgedSoFar xs i steps
+    → AreTaken 0 (plain xs)
+taken_whole xs i steps e so_far =
+    so_far.taken (subst (λ (ds : List Directive). AreTaken steps ds) (sym (none_at xs i e)) tt)
 
 -- why there are no more
-pub unmade_here : (xs : List declared.Directive) (i : ℕ) (x : declared.Directive) (r : Refusal) → StandsAt xs i x
-    → IsUnmade (i + 1) (directive_of x) r → UnrefusedSoFar xs i → AreUnmade (plain xs) r
-unmade_here xs i x r at (inl memory) so_far = inl memory
-unmade_here xs i x r at (inr h) so_far = inr (judged_next xs i x (Some r) at h so_far)
+pub unmade_here : (xs : List declared.Directive) (i steps : ℕ) (x : declared.Directive) (r : Refusal)
+    → StandsAt xs i x → IsUnmade (i + 1) steps (directive_of x) r → JudgedSoFar xs i steps → AreUnmade (plain xs) r
+unmade_here xs i steps x r at (inl memory) so_far = inl memory
+unmade_here xs i steps x r at (inr h) so_far =
+    inr (so_far.refused r
+    (subst (λ (ds : List Directive). FirstRefusal (i + 1) steps ds r) (sym (next_at xs i x at)) (inl h)))

@@ -12,10 +12,11 @@ use Rattle.psl_model.specs.declared.refusals.Refusal.{Refusal}
 use Rattle.psl_model.specs.Unit.{PslUnit}
 use Rattle.psl_units.specs.StandsForUnit.{StandsForUnit}
 use Rattle.unit_compile.specs.Offsets.{token_refusal, rule_refusal}
-use Rattle.unit_compile.specs.Directives.{unit_refusal}
+use Rattle.unit_compile.specs.Directives.{FirstRefusal}
 use Rattle.unit_compile.specs.Made.{IsAccepted}
 use Rattle.unit_compile.specs.Refused.{IsFaultOfTokens, IsFaultOfGrammar, IsFaultOfRules, IsFaultOfDirectives}
 use Rattle.unit_compile.specs.Refused.{IsRefused, tokens, grammar, rules, directives, ComesFor}
+use Rattle.unit_compile.proofs.OneRefusal.{OneNumber, OneLarge, NoneLarge, one_first, taken_is_unrefused}
 
 abbrev pub OneSplit : Type 0
 OneSplit = (text : List ℕ) (ts others : List Token) → Splits 0 text ts → Splits 0 text others → ts ≡ others
@@ -50,14 +51,8 @@ broken_of text r h = record { ts = h.tokens; raw = h.raw; split = h.split; writt
 none_some : (o : Option UnitError) (fault : UnitError) → o ≡ None → o ≡ Some fault → ⊥
 none_some o fault p q = cc
 
-no_refusal : (o : Option Refusal) (r : Refusal) → o ≡ None → o ≡ Some r → ⊥
-no_refusal o r p q = cc
-
-one_some : (o : Option Refusal) (due r : Refusal) → o ≡ Some due → o ≡ Some r → r ≡ due
-one_some o due r p q = cc
-
 module _ (one_split : OneSplit) (not_both : NotBoth) (one_fault : OneFault) (one_tree : OneTree) (one_unit : OneUnit)
-    (text : List ℕ) where
+    (one_number : OneNumber) (one_large : OneLarge) (none_large : NoneLarge) (text : List ℕ) where
   split_faultless : (ts : List Token) (r : Refusal) → Splits 0 text ts → IsFaultOfTokens text r → ⊥
   split_faultless ts r s h = not_both text ts h.fault s h.first
 
@@ -96,12 +91,13 @@ module _ (one_split : OneSplit) (not_both : NotBoth) (one_fault : OneFault) (one
       same_fault o p q = cc
 
   judged_as : (unit : PslUnit) (r : Refusal) (h : IsFaultOfDirectives text r) → StandsForUnit text unit
-      → unit_refusal unit ≡ Some r
+      → FirstRefusal 1 0 unit.directives r
   judged_as unit r h s =
-      subst (λ (u : PslUnit). unit_refusal u ≡ Some r) (one_unit text h.unit unit h.stands s) h.first
+      subst (λ (u : PslUnit). FirstRefusal 1 0 u.directives r) (one_unit text h.unit unit h.stands s) h.first
 
   same_directive : (due r : Refusal) → IsFaultOfDirectives text due → IsFaultOfDirectives text r → r ≡ due
-  same_directive due r h g = one_some (unit_refusal h.unit) due r h.first (judged_as h.unit r g h.stands)
+  same_directive due r h g =
+      one_first one_number one_large none_large 1 0 h.unit.directives due r h.first (judged_as h.unit r g h.stands)
 
   -- the second reason against the first
   after_tokens : (due r : Refusal) → IsFaultOfTokens text due → IsRefused text r → ComesFor text due r
@@ -138,4 +134,5 @@ module _ (one_split : OneSplit) (not_both : NotBoth) (one_fault : OneFault) (one
   not_accepted r (tokens h) a = split_faultless a.stands.tokens r a.stands.split h
   not_accepted r (grammar h) a = written_faultless r (written_of text a.unit a.stands) h
   not_accepted r (rules h) a = lawful_unbroken a.unit r a.stands h
-  not_accepted r (directives h) a = no_refusal (unit_refusal a.unit) r a.unrefused (judged_as a.unit r h a.stands)
+  not_accepted r (directives h) a =
+      taken_is_unrefused one_number one_large none_large 1 0 a.unit.directives r a.taken (judged_as a.unit r h a.stands)

@@ -23,7 +23,7 @@ use Rattle.verilog_text.specs.Module.{Module}
 use Rattle.psl_units.specs.StandsForUnit.{StandsForUnit}
 use Rattle.psl_units.specs.Unit.{unit_for}
 use Rattle.unit_compile.specs.Offsets.{token_refusal, grammar_refusal, rule_refusal}
-use Rattle.unit_compile.specs.Directives.{unit_refusal}
+use Rattle.unit_compile.specs.Directives.{AreTaken}
 use Rattle.unit_compile.specs.Made.{AreMade, AreModulesOf}
 use Rattle.unit_compile.specs.Refused.{IsRefused, tokens, grammar, rules, directives}
 use Rattle.unit_compile.specs.inner.Unmade.{IsUncompiled}
@@ -89,15 +89,15 @@ module _ (text : List ℕ) (unit : PslUnit) (stands : StandsForUnit text unit) w
 
     pub unit_made : ((modules : List Module) → AreMade unit 1 unit.directives modules
         → AllPairs (λ m n. m ≢ n) (map (λ (m : Module). m.name) modules)) → (r : Result T Refusal)
-        → IfOk r (λ made. AreMade unit 1 unit.directives (plain made)) → OnOk r (unit_refusal unit ≡ None)
+        → IfOk r (λ made. AreMade unit 1 unit.directives (plain made)) → OnOk r (AreTaken 0 unit.directives)
         → IfOk r (λ made. AreModulesOf text (plain made))
-    unit_made distinct (Ok made) h unrefused =
+    unit_made distinct (Ok made) h taken =
         record {
-          accepted = record { unit = unit; stands = stands; unrefused = unrefused };
+          accepted = record { unit = unit; stands = stands; taken = taken };
           made = h;
           distinct = distinct (plain made) h;
         }
-    unit_made distinct (Err e) h unrefused = tt
+    unit_made distinct (Err e) h taken = tt
 
 pub stands_by : (text : List ℕ) (ts : List Token) (raw : RawUnit) (unit : PslUnit) → Splits 0 text ts
     → IsUnit text ts raw → refusal (source text ts) raw ≡ None → unit ≡ unit_for (source text ts) raw

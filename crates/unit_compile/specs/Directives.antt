@@ -1,43 +1,47 @@
--- Why no checkers are made of a unit. Its directives are judged one after the other, each for all that may stand
--- against it, and the first refusal is told: what stands against a later directive doesn't matter then.
---     directive_refusal number d    the refusal of the directive with this number, or none
---     first_refusal number ds       the first refusal of these directives, which are numbered from `number` on, or none
---     unit_refusal unit             that of the unit's directives, or none
-use Rattle.std.specs.Prelude.{ℕ, suc, Bool, true, false, nat_lt, if◌then◌else◌, Option, None, Some, List, [], ◌∷◌}
-use Rattle.std.specs.Option.{option_or}
+-- Which directives are refused. They are judged in their order, each where so many steps are left as the limit leaves
+-- behind the directives before.
+--     bits_of d                          the bits of registers that the directive's checker may have
+--     IsRefusedAt number before d r      the directive with this number is refused so; those before have `before` steps
+--     IsTakenAt before d after           it is taken, and with it there are `after` steps
+--     FirstRefusal number before ds r    r is the first refusal of these, which are numbered from `number` on
+--     AreTaken before ds                 each of these is taken in turn
+use Rattle.std.specs.Prelude.{◌≡◌, ◌≢◌, ◌≤◌, ◌⊎◌, ℕ, suc, ◌+◌, ◌-◌, List, [], ◌∷◌}
 use Rattle.psl_model.specs.declared.refusals.Refusal.{Refusal}
-use Rattle.psl_model.specs.declared.refusals.Refusal.TheVariants.{Subset, TooManyRegisters, Unbuilt}
-use Rattle.psl_model.specs.Unit.{PslUnit, Directive}
-use Rattle.simple_subset.specs.Subset.{first_broken}
+use Rattle.psl_model.specs.Unit.{Directive}
 use Rattle.psl_rewrite.specs.BaseForm.{base_form_of}
-use Rattle.property_circuits.specs.Counts.{budget_of, register_limit, told}
-use Rattle.mbac_compile.specs.Built.{is_built}
+use Rattle.formula_limits.specs.Places.{AreSmall}
+use Rattle.formula_limits.specs.Registers.{budget_of, register_limit}
+use Rattle.formula_limits.specs.Steps.{HasSteps, step_limit}
+use Rattle.property_circuits.specs.declared.circuits.CircuitError.TheVariants.{OutOfMemory}
+use Rattle.mbac_compile.specs.Built.{IsBuilt}
+use Rattle.mbac_compile.specs.Refusals.{IsRefused}
+use Rattle.mbac_compile.specs.declared.directives.CheckError.{CheckError}
+use Rattle.mbac_compile.specs.declared.directives.CheckError.TheVariants.{Circuit}
+use Rattle.unit_compile.specs.Told.{check_refusal}
 
--- the bits of registers that a directive's checker may have
 abbrev pub bits_of : Directive → ℕ
 bits_of d = budget_of (base_form_of d.formula)
 
-abbrev pub subset_refusal : (number : ℕ) → (broken : Option ℕ) → Option Refusal
-subset_refusal number None = None
-subset_refusal number (Some rule) = Some (Subset number rule)
+pub record IsRefusedAt (number before : ℕ) (d : Directive) (r : Refusal) : Type 0 where
+  pub error : CheckError
+  pub known : error ≢ Circuit OutOfMemory
+  pub refused : IsRefused d.formula (step_limit - before) error
+  pub telling : r ≡ check_refusal number before error
 
-abbrev pub form_refusal : (built : Bool) → Option Refusal
-form_refusal true = None
-form_refusal false = Some Unbuilt
+pub record IsTakenAt (before : ℕ) (d : Directive) (after : ℕ) : Type 0 where
+  pub built : IsBuilt d.formula
+  pub small : AreSmall (base_form_of d.formula)
+  pub registers : bits_of d ≤ register_limit
+  pub steps : ℕ
+  pub counted : HasSteps (base_form_of d.formula) steps
+  pub added : after ≡ before + steps
+  pub within : after ≤ step_limit
 
-abbrev pub register_refusal : (number bits : ℕ) → Option Refusal
-register_refusal number bits = if nat_lt register_limit bits then Some (TooManyRegisters number (told bits)) else None
+abbrev pub FirstRefusal : (number before : ℕ) → List Directive → Refusal → Type 0
+FirstRefusal number before [] r = ⊥
+FirstRefusal number before (d ∷ ds) r =
+    IsRefusedAt number before d r ⊎ ((after : ℕ) × IsTakenAt before d after × FirstRefusal (suc number) after ds r)
 
--- first that it is outside the simple subset, then that it isn't built, then that its registers have too many bits
-abbrev pub directive_refusal : (number : ℕ) → Directive → Option Refusal
-directive_refusal number d =
-    option_or (subset_refusal number (first_broken d.formula))
-    (option_or (form_refusal (is_built (base_form_of d.formula)))
-    (register_refusal number (bits_of d)))
-
-abbrev pub first_refusal : (number : ℕ) → List Directive → Option Refusal
-first_refusal number [] = None
-first_refusal number (d ∷ ds) = option_or (directive_refusal number d) (first_refusal (suc number) ds)
-
-abbrev pub unit_refusal : PslUnit → Option Refusal
-unit_refusal unit = first_refusal 1 unit.directives
+abbrev pub AreTaken : (before : ℕ) → List Directive → Type 0
+AreTaken before [] = Unit {0}
+AreTaken before (d ∷ ds) = (after : ℕ) × IsTakenAt before d after × AreTaken after ds

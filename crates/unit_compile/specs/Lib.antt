@@ -1,4 +1,5 @@
 pub mod Offsets
+pub mod Told
 pub mod Directives
 pub mod Made
 pub mod Refused

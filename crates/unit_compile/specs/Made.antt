@@ -2,14 +2,14 @@
 --     IsAccepted text              the text stands for a unit of which no directive is refused
 --     AreModulesOf text modules    and these are its modules
 --     IsTextOfModules text out     and this is the text of its modules
-use Rattle.std.specs.Prelude.{◌≡◌, ◌≢◌, ◌≤◌, ℕ, suc, None, List, [], ◌∷◌, map, flat_map, sum, AllPairs}
+use Rattle.std.specs.Prelude.{◌≡◌, ◌≢◌, ◌≤◌, ℕ, suc, List, [], ◌∷◌, map, flat_map, sum, AllPairs}
 use Rattle.psl_model.specs.Unit.{PslUnit, Directive}
 use Rattle.verilog_text.specs.Module.{Module, IsLawful}
 use Rattle.verilog_text.specs.State.{register_widths}
 use Rattle.verilog_text.specs.Text.{spelling}
 use Rattle.checker_meaning.specs.Headline.{IsCheckerOf}
 use Rattle.psl_units.specs.StandsForUnit.{StandsForUnit}
-use Rattle.unit_compile.specs.Directives.{bits_of, unit_refusal}
+use Rattle.unit_compile.specs.Directives.{bits_of, AreTaken}
 
 -- the module of the unit's directive with this number
 pub record IsMade (unit : PslUnit) (number : ℕ) (directive : Directive) (m : Module) : Type 0 where
@@ -27,7 +27,7 @@ AreMade unit from _ _ = ⊥
 pub record IsAccepted (text : List ℕ) : Type 0 where
   pub unit : PslUnit
   pub stands : StandsForUnit text unit
-  pub unrefused : unit_refusal unit ≡ None
+  pub taken : AreTaken 0 unit.directives
 
 pub record AreModulesOf (text : List ℕ) (modules : List Module) : Type 0 where
   pub accepted : IsAccepted text

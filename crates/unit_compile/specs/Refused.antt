@@ -21,7 +21,7 @@ use Rattle.psl_model.specs.declared.refusals.Refusal.TheVariants.{OutOfMemory}
 use Rattle.psl_model.specs.Unit.{PslUnit}
 use Rattle.psl_units.specs.StandsForUnit.{StandsForUnit}
 use Rattle.unit_compile.specs.Offsets.{token_refusal, grammar_refusal, rule_refusal}
-use Rattle.unit_compile.specs.Directives.{unit_refusal}
+use Rattle.unit_compile.specs.Directives.{FirstRefusal}
 
 pub record IsFaultOfTokens (text : List ℕ) (r : Refusal) : Type 0 where
   pub fault : LexError
@@ -51,7 +51,7 @@ pub record IsFaultOfRules (text : List ℕ) (r : Refusal) : Type 0 where
 pub record IsFaultOfDirectives (text : List ℕ) (r : Refusal) : Type 0 where
   pub unit : PslUnit
   pub stands : StandsForUnit text unit
-  pub first : unit_refusal unit ≡ Some r
+  pub first : FirstRefusal 1 0 unit.directives r
 
 pub data IsRefused (text : List ℕ) (r : Refusal) : Type 0 where
   tokens : IsFaultOfTokens text r → IsRefused text r

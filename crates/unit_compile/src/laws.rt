@@ -12,6 +12,7 @@ ghost use Rattle.mbac_compile.specs.Units.{IsWellNamed, IsWellWorded, IsWellForm
 ghost use Rattle.unit_compile.specs.Made.{IsAccepted, AreMade, AreModulesOf};
 ghost use Rattle.unit_compile.specs.Refused.{IsRefused, ComesFor};
 
+use formula_limits::laws::{a_formula_has_one_number_of_steps, the_first_large_sequence_is_one};
 use psl_lexer::laws::a_text_has_one_reading;
 use unit_conditions::laws::{
     directives_are_few, directives_are_well_worded, expressions_are_valid_and_shallow,
@@ -44,6 +45,8 @@ pub fn a_text_has_one_answer()
     a_text_has_one_reading();
     tokens_are_one_unit();
     bytes_stand_for_one_unit();
+    a_formula_has_one_number_of_steps();
+    the_first_large_sequence_is_one();
 }
 
 /// The checkers of a unit have different names.

@@ -1,8 +1,9 @@
 //! How faults are told: tokens by the offsets at which they begin.
 
-ghost use Rattle.std.specs.Prelude.{◌≡◌};
+ghost use Rattle.std.specs.Prelude.{◌≡◌, ◌≤◌, ◌+◌, ◌^◌};
+ghost use Rattle.sequence_cores.specs.Places.{told};
 ghost use Rattle.unit_compile.specs.Offsets.{offset_of, token_refusal, grammar_refusal, rule_refusal};
-ghost use Rattle.unit_compile.specs.inner.Told.{check_refusal, circuit_refusal};
+ghost use Rattle.unit_compile.specs.Told.{check_refusal, circuit_refusal};
 
 use mbac_compile::CheckError;
 use property_circuits::CircuitError;
@@ -10,6 +11,9 @@ use psl_lexer::{LexError, Token};
 use psl_model::Refusal;
 use psl_parser::ParseError;
 use psl_units::UnitError;
+
+/// Stands for all counts from here on.
+const COUNT_LIMIT: u64 = 0x8000_0000_0000_0000;
 
 /// Where a token begins. Behind the last one stands the end of the text.
 fn offset_of(text: &[u8], tokens: &[Token], token: u32) -> u64
@@ -89,9 +93,10 @@ pub(crate) fn rule_refusal(text: &[u8], tokens: &[Token], error: UnitError) -> R
     }
 }
 
-/// Why the directive with this number gets no checker.
-pub(crate) fn check_refusal(number: u32, error: CheckError) -> Refusal
-    ensures { result ≡ check_refusal number error }
+/// Why the directive with this number gets no checker, where those before it have `before` steps.
+pub(crate) fn check_refusal(number: u32, before: u64, error: CheckError) -> Refusal
+    requires before { before ≤ 2 ^ 63 }
+    ensures { result ≡ check_refusal number before error }
 {
     match error {
         CheckError::Subset(rule) => Refusal::Subset {
@@ -99,12 +104,21 @@ pub(crate) fn check_refusal(number: u32, error: CheckError) -> Refusal
             rule: rule.number,
         },
         CheckError::Unbuilt => Refusal::Unbuilt,
-        CheckError::Circuit(error) => circuit_refusal(number, error),
+        CheckError::Circuit(error) => circuit_refusal(number, before, error),
     }
 }
 
-fn circuit_refusal(directive: u32, error: CircuitError) -> Refusal
-    ensures { result ≡ circuit_refusal directive error }
+/// The steps of the directives up to one, as they are told.
+fn steps_up_to(before: u64, count: u64) -> u64
+    requires before { before ≤ 2 ^ 63 }
+    ensures { result ≡ told (before + count) }
+{
+    before.saturating_add(count).min(COUNT_LIMIT)
+}
+
+fn circuit_refusal(directive: u32, before: u64, error: CircuitError) -> Refusal
+    requires before { before ≤ 2 ^ 63 }
+    ensures { result ≡ circuit_refusal directive before error }
 {
     match error {
         CircuitError::TooManyPlaces { sequence, places } => Refusal::TooManyPlaces {
@@ -121,7 +135,10 @@ fn circuit_refusal(directive: u32, error: CircuitError) -> Refusal
             sequence,
         },
         CircuitError::TooManyRegisters { count } => Refusal::TooManyRegisters { directive, count },
-        CircuitError::TooManySteps { count } => Refusal::TooManySteps { directive, count },
+        CircuitError::TooManySteps { count } => Refusal::TooManySteps {
+            directive,
+            count: steps_up_to(before, count),
+        },
         CircuitError::OutOfMemory => Refusal::OutOfMemory,
     }
 }

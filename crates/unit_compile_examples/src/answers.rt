@@ -5,7 +5,7 @@ use std::alloc::Global;
 use std::test::Fail;
 use unit_compile::modules;
 
-static REFUSED: [(&[u8], Refusal); 19] = [
+static REFUSED: [(&[u8], Refusal); 21] = [
     (b"", Refusal::Syntax { offset: 0 }),
     (b"vunit u { assert always", Refusal::Syntax { offset: 23 }),
     (
@@ -46,6 +46,22 @@ static REFUSED: [(&[u8], Refusal); 19] = [
     ),
     (b"vunit u { assert {a;b}; }", Refusal::Unbuilt),
     (
+        b"vunit u { assert {{a;b}[*1025]} |-> c; }",
+        Refusal::TooManyPlaces {
+            directive: 1,
+            sequence: 1,
+            places: 4100,
+        },
+    ),
+    (
+        b"vunit u { assert {a} |-> ({b;c} |-> {{a;b}[*1025]} |-> c); }",
+        Refusal::TooManyPlaces {
+            directive: 1,
+            sequence: 3,
+            places: 4100,
+        },
+    ),
+    (
         b"vunit u { assert a; assert next_e[1:2](a); assert b; }",
         Refusal::Unbuilt,
     ),
@@ -79,7 +95,7 @@ static REFUSED: [(&[u8], Refusal); 19] = [
     (b"vunit u { } ;", Refusal::Syntax { offset: 12 }),
 ];
 
-static ACCEPTED: [(&[u8], usize); 7] = [
+static ACCEPTED: [(&[u8], usize); 10] = [
     (b"vunit u { }", 0),
     (b"vunit u { assert always a; }", 1),
     (
@@ -90,6 +106,12 @@ static ACCEPTED: [(&[u8], usize); 7] = [
     (
         b"vunit u { assert always (a -> next! b); assert a until_ b; assert next_a[1:3](c); }",
         3,
+    ),
+    (b"vunit u { assert {{a;b}[*1024]} |-> c; }", 1),
+    (b"vunit u { assert {a[*0:1023]} |-> b; }", 1),
+    (
+        b"vunit u { assert always ({a[->];b} |=> c until d); assert never {a;!b}; }",
+        2,
     ),
     (
         b"vunit u { wire [3:0] cnt; assert always !(cnt + 1 == 0); }",
@@ -186,7 +208,7 @@ fn a_checker_has_65536_registers_at_most(rt: HostRuntime) -> Result<(), Fail> {
 }
 
 /// Units of which one directive has too many registers: what stands before and behind its sixteen `next`.
-static TOO_FULL: [(&[u8], &[u8], Refusal); 8] = [
+static TOO_FULL: [(&[u8], &[u8], Refusal); 10] = [
     (
         b"vunit u { assert next[4096](",
         b"; assert a until (always b); }",
@@ -236,7 +258,28 @@ static TOO_FULL: [(&[u8], &[u8], Refusal); 8] = [
     (
         b"vunit u { assert {a;b} |-> next[4096](",
         b"; }",
-        Refusal::Unbuilt,
+        Refusal::TooManyRegisters {
+            directive: 1,
+            count: 65_541,
+        },
+    ),
+    // A sequence comes before the registers of its own directive, and behind those of an earlier one.
+    (
+        b"vunit u { assert {{a;b}[*1025]} |-> next[4096](",
+        b"; }",
+        Refusal::TooManyPlaces {
+            directive: 1,
+            sequence: 1,
+            places: 4100,
+        },
+    ),
+    (
+        b"vunit u { assert next[4096](",
+        b"; assert {{a;b}[*1025]} |-> c; }",
+        Refusal::TooManyRegisters {
+            directive: 1,
+            count: 65_537,
+        },
     ),
     // What stands against the unit as a whole comes before what stands against a directive.
     (

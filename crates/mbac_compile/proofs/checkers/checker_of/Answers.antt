@@ -1,4 +1,5 @@
 use Rattle.std.proofs.Common.{◌≡◌, List, ℕ, subst, sym, arith}
+use Rattle.std.proofs.lemmas.Result.{err_from_is_err_and}
 use Rattle.psl_rewrite.specs.View.{base_of}
 use Rattle.psl_rewrite.specs.Meaning.{named}
 use Rattle.circuit_meaning.specs.Checks as circuit
@@ -31,3 +32,20 @@ returns-clause-bits c =
       same_bits c.in_ok-circuit.circuit.netlist (module_of c.in_ok-checker.checker) c.in_ok-checker.ensures.registers,
       c.in_ok-circuit.ensures.bits,
     )
+
+pub returns-in_err-circuit-clause-too_many_places : goal.returns-in_err-circuit-clause-too_many_places
+returns-in_err-circuit-clause-too_many_places c n p =
+    let q = err_from_is_err_and c.from_residual.result c.from_residual.ensures.1 in
+    let law = c.check_circuit.ensures.too_many_places n p in
+    (λ h. law.0 (cc (h, c.in_err-circuit.was, q.1, q.2)), λ h. cc (law.1 h, c.in_err-circuit.was, q.1, q.2))
+
+pub returns-in_err-checker-clause-too_many_places : goal.returns-in_err-checker-clause-too_many_places
+returns-in_err-checker-clause-too_many_places c n p =
+    let q = err_from_is_err_and c.from_residual-in_err-checker.result c.from_residual-in_err-checker.ensures.1 in
+    let law = c.check_circuit.ensures.too_many_places n p in
+    (λ h. absurd (cc (h, q.1, q.2)), λ h. absurd (cc (law.1 h, c.in_ok-circuit.was)))
+
+pub returns-clause-too_many_places : goal.returns-clause-too_many_places
+returns-clause-too_many_places c n p =
+    let law = c.check_circuit.ensures.too_many_places n p in
+    (λ h. absurd (cc (h)), λ h. absurd (cc (law.1 h, c.in_ok-circuit.was)))

@@ -1,5 +1,6 @@
 use Rattle.std.proofs.Common.{◌≡◌, ℕ, List, ap, ◌∙◌, subst}
-use Rattle.std.specs.Prelude.{slice_get}
+use Rattle.std.specs.Prelude.{slice_get, sum, ◌↔◌, ◌≤◌}
+use Rattle.std.proofs.Common.{rules}
 use Rattle.std.specs.List.{filter_map}
 use Rattle.std.proofs.lemmas.List.{length-map}
 use Rattle.psl_model.specs.declared.names.Signal.{Signal}
@@ -16,6 +17,12 @@ use Rattle.port_formulas.specs.Chosen.{chosen}
 use Rattle.port_formulas.specs.Over.{over}
 use Rattle.verilog_text.specs.Interface.{port_widths}
 use Rattle.checker_meaning.specs.Headline.{module_name, shown_report, ports_of, places_of, widths_of}
+use Rattle.std.proofs.lemmas.Result.{IfErr-weaker}
+use Rattle.verilog_text.specs.State.{register_widths}
+use Rattle.verilog_text.specs.View.{module_of}
+use Rattle.formula_limits.specs.Registers.{register_limit}
+use Rattle.formula_limits.specs.Steps.{HasSteps}
+use Rattle.mbac_compile.proofs.Refused.{CountsAs, counts_too, refusal_too}
 use Rattle.mbac_compile.proofs.Joined.{guards_too, interface_too, reads_too}
 use Rattle.mbac_compile.proofs.directives.built_checker.Goals as goal
 
@@ -89,3 +96,94 @@ returns-clause-checker c =
           (c.a_built_formula_reads_as_its_base_form.ensures.reads (widths_of unit) f c.requires.built
           c.requires.expressions)));
     }
+
+pub returns-clause-steps : goal.returns-clause-steps
+returns-clause-steps c =
+    let unit : PslUnit = unit_of c.args.unit.now in
+    let directive : Directive = directive_of c.args.directive.now in
+    let f : Formula = directive.formula in
+    let places : c.in_ok-places.places.items ≡ places_of unit directive =
+    c.in_ok-places.ensures ∙ ap (λ (n : ℕ). used_places n f) c.len.ensures in
+    let base : base_of c.in_ok-base.base ≡ base_form_of (over (places_of unit directive) f) =
+    c.in_ok-base.ensures ∙ ap (λ (l : List ℕ). base_form_of (over l f)) (c.deref.ensures.value ∙ places) in
+    let law = c.a_built_formula_counts_as_its_base_form.ensures in
+    let counts : CountsAs (base_of c.in_ok-base.base) (base_form_of f) =
+    counts_too (base_of c.in_ok-base.base) (base_form_of (over (places_of unit directive) f)) (base_form_of f) base
+    (record {
+      small = law.small (places_of unit directive) f;
+      large = law.too_many_places (places_of unit directive) f;
+      budget = law.budget (places_of unit directive) f;
+      steps = λ k. subst (λ (n : ℕ). HasSteps (base_form_of (over (used_places n f) f)) k ↔ HasSteps (base_form_of f) k)
+          (length-map unit.signals (λ (s : Signal). s.width))
+          (law.steps (widths_of unit) f k c.requires.expressions);
+    }) in
+    (counts.steps c.in_ok-checker.checker.steps).0 c.in_ok-checker.ensures.steps
+
+pub returns-clause-within : goal.returns-clause-within
+returns-clause-within c =
+    let unit : PslUnit = unit_of c.args.unit.now in
+    let directive : Directive = directive_of c.args.directive.now in
+    let f : Formula = directive.formula in
+    let places : c.in_ok-places.places.items ≡ places_of unit directive =
+    c.in_ok-places.ensures ∙ ap (λ (n : ℕ). used_places n f) c.len.ensures in
+    let base : base_of c.in_ok-base.base ≡ base_form_of (over (places_of unit directive) f) =
+    c.in_ok-base.ensures ∙ ap (λ (l : List ℕ). base_form_of (over l f)) (c.deref.ensures.value ∙ places) in
+    let law = c.a_built_formula_counts_as_its_base_form.ensures in
+    let counts : CountsAs (base_of c.in_ok-base.base) (base_form_of f) =
+    counts_too (base_of c.in_ok-base.base) (base_form_of (over (places_of unit directive) f)) (base_form_of f) base
+    (record {
+      small = law.small (places_of unit directive) f;
+      large = law.too_many_places (places_of unit directive) f;
+      budget = law.budget (places_of unit directive) f;
+      steps = λ k. subst (λ (n : ℕ). HasSteps (base_form_of (over (used_places n f) f)) k ↔ HasSteps (base_form_of f) k)
+          (length-map unit.signals (λ (s : Signal). s.width))
+          (law.steps (widths_of unit) f k c.requires.expressions);
+    }) in
+    let h = c.in_ok-checker.ensures.within in
+    (counts.small.0 h.0, subst (λ (n : ℕ). n ≤ register_limit) counts.budget h.1, h.2)
+
+pub returns-clause-bits : goal.returns-clause-bits
+returns-clause-bits c =
+    let unit : PslUnit = unit_of c.args.unit.now in
+    let directive : Directive = directive_of c.args.directive.now in
+    let f : Formula = directive.formula in
+    let places : c.in_ok-places.places.items ≡ places_of unit directive =
+    c.in_ok-places.ensures ∙ ap (λ (n : ℕ). used_places n f) c.len.ensures in
+    let base : base_of c.in_ok-base.base ≡ base_form_of (over (places_of unit directive) f) =
+    c.in_ok-base.ensures ∙ ap (λ (l : List ℕ). base_form_of (over l f)) (c.deref.ensures.value ∙ places) in
+    let law = c.a_built_formula_counts_as_its_base_form.ensures in
+    let counts : CountsAs (base_of c.in_ok-base.base) (base_form_of f) =
+    counts_too (base_of c.in_ok-base.base) (base_form_of (over (places_of unit directive) f)) (base_form_of f) base
+    (record {
+      small = law.small (places_of unit directive) f;
+      large = law.too_many_places (places_of unit directive) f;
+      budget = law.budget (places_of unit directive) f;
+      steps = λ k. subst (λ (n : ℕ). HasSteps (base_form_of (over (used_places n f) f)) k ↔ HasSteps (base_form_of f) k)
+          (length-map unit.signals (λ (s : Signal). s.width))
+          (law.steps (widths_of unit) f k c.requires.expressions);
+    }) in
+    subst (λ (n : ℕ). sum (register_widths (module_of c.in_ok-checker.checker.checker)) ≤ n) counts.budget
+    c.in_ok-checker.ensures.bits
+
+pub returns-in_err-checker-clause-refused : goal.returns-in_err-checker-clause-refused
+returns-in_err-checker-clause-refused c =
+    let unit : PslUnit = unit_of c.args.unit.now in
+    let directive : Directive = directive_of c.args.directive.now in
+    let f : Formula = directive.formula in
+    let places : c.in_ok-places.places.items ≡ places_of unit directive =
+    c.in_ok-places.ensures ∙ ap (λ (n : ℕ). used_places n f) c.len.ensures in
+    let base : base_of c.in_ok-base.base ≡ base_form_of (over (places_of unit directive) f) =
+    c.in_ok-base.ensures ∙ ap (λ (l : List ℕ). base_form_of (over l f)) (c.deref.ensures.value ∙ places) in
+    let law = c.a_built_formula_counts_as_its_base_form.ensures in
+    let counts : CountsAs (base_of c.in_ok-base.base) (base_form_of f) =
+    counts_too (base_of c.in_ok-base.base) (base_form_of (over (places_of unit directive) f)) (base_form_of f) base
+    (record {
+      small = law.small (places_of unit directive) f;
+      large = law.too_many_places (places_of unit directive) f;
+      budget = law.budget (places_of unit directive) f;
+      steps = λ k. subst (λ (n : ℕ). HasSteps (base_form_of (over (used_places n f) f)) k ↔ HasSteps (base_form_of f) k)
+          (length-map unit.signals (λ (s : Signal). s.width))
+          (law.steps (widths_of unit) f k c.requires.expressions);
+    }) in
+    IfErr-weaker c.from_residual-in_err-checker.result _ _
+    (λ e h. refusal_too (base_of c.in_ok-base.base) (base_form_of f) c.args.steps_left e counts h) (search rules)

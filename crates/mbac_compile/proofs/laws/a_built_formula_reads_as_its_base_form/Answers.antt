@@ -5,12 +5,10 @@ use Rattle.psl_meaning.specs.Violation.{WeaklyViolates, Violates}
 use Rattle.psl_rewrite.specs.BaseForm.{base_form_of}
 use Rattle.psl_rewrite.specs.Meaning.{named}
 use Rattle.psl_rewrite.specs.SameMeaning.{MeanTheSame}
-use Rattle.port_formulas.specs.Chosen.{chosen, position_in, UsesOnly}
+use Rattle.port_formulas.specs.Chosen.{chosen, UsesOnly}
 use Rattle.port_formulas.specs.Over.{over}
 use Rattle.simple_subset.specs.Subset.{InSubset}
 use Rattle.mbac_compile.specs.Units.{expression_parentheses_limit}
-use Rattle.mbac_compile.proofs.Built.{base_built, same_built}
-use Rattle.mbac_compile.proofs.Guards.{has_guards}
 use Rattle.mbac_compile.proofs.Alike.{weakly_same, wholly_same, some_mapped}
 use Rattle.mbac_compile.proofs.laws.a_built_formula_reads_as_its_base_form.Goals as goal
 
@@ -21,10 +19,8 @@ returns-clause-guards c widths f built has =
     let uses : UsesOnly places (λ signal. formula_uses signal f) =
     c.used_places_are_those_of_the_used_signals.ensures.enough (length widths) f
     (λ place used. c.an_allowed_formula_uses_signals_of_its_table.ensures widths limit f place has used) in
-    has_guards (chosen places widths) (base_form_of (over places f))
-    (base_built (base_form_of (over places f)) (same_built (position_in places) f ∙ built.form))
-    (c.a_base_form_keeps_the_conditions.ensures.expressions (over places f) (chosen places widths) limit
-    (c.a_formula_over_its_signals_keeps_the_conditions.ensures.expressions places widths limit f uses has))
+    c.a_base_form_keeps_the_conditions.ensures.expressions (over places f) (chosen places widths) limit
+    (c.a_formula_over_its_signals_keeps_the_conditions.ensures.expressions places widths limit f uses has)
 
 pub returns-clause-reads : goal.returns-clause-reads
 returns-clause-reads c widths f built has =

@@ -54,7 +54,7 @@ returns-in-Ok-clause-made c =
     c.in-Ok.ensures.lawful c.in-Ok.ensures.unit in
     unit_made c.args.text.now unit stands (λ v. map module_of v.items)
     (λ modules made. c.checkers_have_different_names.ensures c.args.text.now unit modules stands c.requires.short made)
-    c.modules_of.result c.modules_of.ensures.made c.modules_of.ensures.unrefused
+    c.modules_of.result c.modules_of.ensures.made c.modules_of.ensures.taken
 
 pub returns-in-Ok-clause-refused : goal.returns-in-Ok-clause-refused
 returns-in-Ok-clause-refused c =
