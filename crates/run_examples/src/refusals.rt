@@ -4,7 +4,7 @@ use crate::runs::is_refused;
 use mbac_top::Cause;
 use psl_model::Refusal;
 
-static REFUSED: [(&[u8], Cause, &[u8]); 15] = [
+static REFUSED: [(&[u8], Cause, &[u8]); 17] = [
     (
         b"vunit u { assert always a # b; }",
         Cause::Refused(Refusal::BadByte { offset: 26 }),
@@ -76,9 +76,26 @@ static REFUSED: [(&[u8], Cause, &[u8]); 15] = [
         b"mbac: Unbuilt\n",
     ),
     (
-        b"vunit u { assert a; assert {a} |-> b; assert b; }",
+        b"vunit u { assert a; assert {a} |-> {b;c}; assert b; }",
         Cause::Refused(Refusal::Unbuilt),
         b"mbac: Unbuilt\n",
+    ),
+    (
+        b"vunit u { assert {{a;b}[*1025]} |-> c; }",
+        Cause::Refused(Refusal::TooManyPlaces {
+            directive: 1,
+            sequence: 1,
+            places: 4100,
+        }),
+        b"mbac: TooManyPlaces 1 1 4100\n",
+    ),
+    (
+        b"vunit u { assert {a[*0:1023]} |-> b; assert {a[*0:1023]} |-> b; }",
+        Cause::Refused(Refusal::TooManySteps {
+            directive: 2,
+            count: 1_047_552,
+        }),
+        b"mbac: TooManySteps 2 1047552\n",
     ),
 ];
 

@@ -13,7 +13,7 @@ use verilog_text::Module;
 
 // A unit, in each cycle its two signals in the order of their names' first use and whether the trace ends there, and
 // the first cycle in which the checker fails.
-static RISES: [(&[u8], &[(bool, bool, bool)], Option<usize>); 12] = [
+static RISES: [(&[u8], &[(bool, bool, bool)], Option<usize>); 18] = [
     (
         b"vunit u { assert always (req -> next ack); }",
         &[(true, false, true)],
@@ -80,6 +80,58 @@ static RISES: [(&[u8], &[(bool, bool, bool)], Option<usize>); 12] = [
     (
         b"vunit u { assert a before_ b; }",
         &[(false, false, false), (true, true, false)],
+        None,
+    ),
+    (
+        b"vunit u { assert always ({b[*3]} |-> c); }",
+        &[
+            (true, false, false),
+            (true, false, false),
+            (true, false, false),
+        ],
+        Some(2),
+    ),
+    (
+        b"vunit u { assert always ({a;a} |=> b); }",
+        &[
+            (true, false, false),
+            (true, false, false),
+            (false, true, false),
+            (true, false, true),
+        ],
+        None,
+    ),
+    // A match under way isn't forgotten where another one begins.
+    (
+        b"vunit u { assert always ({a;true;true} |-> b); }",
+        &[
+            (true, false, false),
+            (true, false, false),
+            (false, false, false),
+        ],
+        Some(2),
+    ),
+    (
+        b"vunit u { assert always ({a} |=> next! b); }",
+        &[(true, false, false), (false, false, true)],
+        Some(1),
+    ),
+    (
+        b"vunit u { assert never {a;b}; }",
+        &[
+            (true, false, false),
+            (true, false, false),
+            (false, true, false),
+        ],
+        Some(2),
+    ),
+    (
+        b"vunit u { assert {a[*];b} |-> a; }",
+        &[
+            (true, false, false),
+            (false, false, false),
+            (false, true, false),
+        ],
         None,
     ),
 ];

@@ -5,7 +5,7 @@ use std::alloc::Global;
 use unit_compile::compile;
 
 // Units, and how many checkers they have.
-static UNITS: [(&[u8], usize); 12] = [
+static UNITS: [(&[u8], usize); 13] = [
     (b"vunit u { }", 0),
     (b"vunit u { assert always a; }", 1),
     (b"vunit u { assert never a; }", 1),
@@ -44,6 +44,10 @@ static UNITS: [(&[u8], usize); 12] = [
     (
         b"vunit u { assert always (a -> (always (b -> (always c)))); }",
         1,
+    ),
+    (
+        b"vunit u { assert a -> next![3](b until c); assert always ({a;b[*2:3]} |=> c); assert never {a;b}; }",
+        3,
     ),
 ];
 
