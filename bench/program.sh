@@ -66,6 +66,16 @@ registers() {
         print text "; }" }'
 }
 
+# A sequence of 523,776 steps.
+steps() {
+    echo 'vunit u { assert {a[*0:1023]} |-> b; }'
+}
+
+# A sequence of 4,096 places.
+places() {
+    echo 'vunit u { assert {{a;b}[*1024]} |-> c; }'
+}
+
 # The least time of the runs.
 measure() {
     local least= start end
@@ -80,7 +90,7 @@ measure() {
 }
 
 echo "$(nproc) processors, load $(cut -d' ' -f1-3 /proc/loadavg)"
-for unit in many large wide declared comments registers; do
+for unit in many large wide declared comments registers steps places; do
     $unit > unit.psl
     measure $unit
 done

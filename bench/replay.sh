@@ -102,9 +102,16 @@ make_program() {
     mkdir -p $crate/src $crate/proofs
     cp bench/programs/replay.rt.txt $crate/src/main.rt
     cp bench/programs/modules.rt.txt $crate/src/modules.rt
-    cp bench/programs/Lawful.antt.txt $crate/proofs/Lawful.antt
-    cp bench/programs/Narrow.antt.txt $crate/proofs/Narrow.antt
-    printf 'pub mod Lawful\npub mod Narrow\n' > $crate/proofs/Lib.antt
+    local name
+    for name in Lawful Narrow Rows; do
+        cp bench/programs/$name.antt.txt $crate/proofs/$name.antt
+        echo "pub mod $name" >> $crate/proofs/Lib.antt
+    done
+    for name in traced verdict replay; do
+        mkdir -p $crate/proofs/$name
+        cp bench/programs/${name}_answers.antt.txt $crate/proofs/$name/Answers.antt
+    done
+    cp bench/programs/replay_invariants.antt.txt $crate/proofs/replay/Invariants.antt
     cd $crate
 }
 
